@@ -1,0 +1,4 @@
+pub mod Decides
+pub mod Every
+pub mod Lists
+pub mod Members
