@@ -2,6 +2,7 @@
 --
 -- Label               kind 0 reads one byte from lo to hi, argument lo × 256 + hi; kind 1 opens and kind 2 closes the
 --                     variable named by the argument
+-- RightLabel K k a    kind k and argument a are of one of these forms, with K variables
 -- isByte l            l reads a byte; else it is a marker
 -- reads l b           the byte b is one that l reads
 -- spells ls bs        the labels ls, one after another, read the bytes bs, all of them
@@ -11,7 +12,7 @@
 -- marked ls           the set that ls marks: the positions at which each variable is opened and closed
 use mathlib.Core.Bool.{Bool, true, false, cond, _&&_, not}
 use mathlib.Core.List.{List, [], _∷_}
-use Prim.Native.Nat.{ℕ, zero, suc, _+_, _/_, _%_}
+use Prim.Native.Nat.{ℕ, zero, suc, _+_, _/_, _%_, _≤_, _<_}
 use lib.Dec.{leb, eqb}
 use Rattle.basics.specs.Lists.{equal}
 use Rattle.spans.specs.declared.Spans.{Spans}
@@ -19,6 +20,12 @@ use Rattle.spans.specs.declared.Spans.{Spans}
 pub record Label : Type 0 where
   pub kind : ℕ
   pub argument : ℕ
+
+-- for kind 0, lo ≤ hi ≤ 255; for a marker, a variable from 1 to K
+pub data RightLabel (K : ℕ) : ℕ → ℕ → Type 0 where
+  byte : {arg : ℕ} → arg < 65536 → arg / 256 ≤ arg % 256 → RightLabel K 0 arg
+  opens : {arg : ℕ} → 1 ≤ arg → arg ≤ K → RightLabel K 1 arg
+  closes : {arg : ℕ} → 1 ≤ arg → arg ≤ K → RightLabel K 2 arg
 
 abbrev pub isByte : Label → Bool
 isByte l = eqb (l .kind) 0

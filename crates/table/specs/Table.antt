@@ -18,7 +18,7 @@ use Prim.Native.Nat.{ℕ, zero, suc, _+_, _*_, _/_, _%_, _≤_, _<_}
 use lib.Dec.{eqb}
 use lib.ListN.{length, getD}
 use Rattle.weight.specs.Weight.{mark}
-use Rattle.marks.specs.Labels.{Label}
+use Rattle.marks.specs.Labels.{Label, RightLabel}
 use Rattle.table.specs.declared.Row.{Row}
 
 abbrev pub rowAt : List ℕ → ℕ → Row
@@ -42,12 +42,6 @@ mostWeight = 1000000
 
 abbrev pub mostBytes : ℕ
 mostBytes = 1024
-
--- kind 0: argument lo × 256 + hi with lo ≤ hi ≤ 255; kinds 1 and 2: a variable from 1 to K
-pub data RightLabel (K : ℕ) : ℕ → ℕ → Type 0 where
-  byte : {arg : ℕ} → arg < 65536 → arg / 256 ≤ arg % 256 → RightLabel K 0 arg
-  opens : {arg : ℕ} → 1 ≤ arg → arg ≤ K → RightLabel K 1 arg
-  closes : {arg : ℕ} → 1 ≤ arg → arg ≤ K → RightLabel K 2 arg
 
 pub record RightRow (S K : ℕ) (r : Row) : Type 0 where
   pub leaves : r .from < S

@@ -1,0 +1,5 @@
+pub mod Bytes
+pub mod Grammar
+pub mod Derivations
+pub mod Machine
+pub mod Places
