@@ -5,12 +5,16 @@
 -- lists m rs      all lists of m elements of rs, each as often as its elements stand in rs
 -- pairs xs ys     all pairs of an element of xs and one of ys
 -- All P xs        P holds of each element of xs
+-- all-map         what follows from P for each element follows for all
+-- getD-inside     below a list's length it does not matter what stands past its end
 -- equal xs ys     the test that two lists of numbers are the same
 use mathlib.Core.Path.{_≡_, refl, ap, ap₂}
 use mathlib.Core.Bool.{Bool, true, false, _&&_, false≢true}
 use mathlib.Core.List.{List, [], _∷_, _++_, map}
-use Prim.Native.Nat.{ℕ, zero, suc, _+_}
+use Prim.Native.Nat.{ℕ, zero, suc, _+_, _<_}
+use native.Mathlib.Omega.{arith}
 use lib.Dec.{eqb}
+use lib.ListN.{length, getD}
 use borrow.Author.Tests.{eq-eqb, eqb-true}
 use Rattle.basics.specs.Every.{and-true}
 
@@ -36,6 +40,15 @@ pairs (x ∷ xs) ys = map (λ y. (x, y)) ys ++ pairs xs ys
 abbrev pub All : {R : Type 0} → (R → Type 0) → List R → Type 0
 All P [] = Unit {0}
 All P (r ∷ rs) = P r × All P rs
+
+pub all-map : {R : Type 0} {P Q : R → Type 0} → ((r : R) → P r → Q r) → (xs : List R) → All P xs → All Q xs
+all-map f [] h = tt
+all-map f (x ∷ xs) h = (f x (h .0), all-map f xs (h .1))
+
+pub getD-inside : {R : Type 0} (xs : List R) (i : ℕ) (d e : R) → i < length xs → getD xs i d ≡ getD xs i e
+getD-inside [] i d e h = absurd (omega arith)
+getD-inside (x ∷ xs) zero d e h = refl
+getD-inside (x ∷ xs) (suc i) d e h = getD-inside xs i d e (omega arith)
 
 abbrev pub equal : List ℕ → List ℕ → Bool
 equal [] [] = true

@@ -1,6 +1,7 @@
 -- What stands in a list, and in the lists made of it.
 --
 -- In x xs         x stands in xs
+-- all-in          what holds of all elements holds of one
 -- in-lists        a list of elements of rs is one of all lists of its length
 -- lists-in        one of all lists of m elements has m elements, each of rs
 use mathlib.Core.Path.{_≡_, refl, sym, ap, _∙_}
@@ -26,6 +27,10 @@ lone-in (later m) = absurd (none-in m)
 pub cons-in : {A : Type 0} {x y : A} {l : List A} → In x (y ∷ l) → (x ≡ y) ⊎ In x l
 cons-in first = inl refl
 cons-in (later h) = inr h
+
+pub all-in : {A : Type 0} (P : A → Type 0) (x : A) (l : List A) → All P l → In x l → P x
+all-in P x l h first = h .0
+all-in P x l h (later {l = k} i) = all-in P x k (h .1) i
 
 pub in-append-left : {A : Type 0} (x : A) (l m : List A) → In x l → In x (l ++ m)
 in-append-left x l m first = first
