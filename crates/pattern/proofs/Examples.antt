@@ -8,8 +8,8 @@ use lib.ListN.{length}
 use Rattle.pattern.specs.Bytes.{classOf}
 use Rattle.pattern.specs.Grammar.{Pat, reads, nothing, alt, cat, star, charge, capture, grouped, Pattern, lone, last, with, plain, none}
 use Rattle.pattern.specs.Places.{Refused, Begins}
-use Rattle.pattern.proofs.Laws.{makes-tree}
-use Rattle.pattern.proofs.Parts.{refuses, done-pattern, contra}
+use Rattle.pattern.specs.Laws.{makes-tree}
+use Rattle.pattern.specs.Joins.{refuses, done-pattern, contra}
 
 -- (a#002)*#005
 ex1 : (a : Pat) → Pattern 0 (40 ∷ 97 ∷ 35 ∷ 48 ∷ 48 ∷ 50 ∷ 41 ∷ 42 ∷ 35 ∷ 48 ∷ 48 ∷ 53 ∷ []) a → charge 5 (star (grouped (charge 2 (reads 97 97)))) ≡ a
@@ -18,7 +18,7 @@ ex1 a p = makes-tree p
 
 -- .*EC={1:[0-9][0-9]*}
 ex2 : (a : Pat) → Pattern 1 (46 ∷ 42 ∷ 69 ∷ 67 ∷ 61 ∷ 123 ∷ 49 ∷ 58 ∷ 91 ∷ 48 ∷ 45 ∷ 57 ∷ 93 ∷ 91 ∷ 48 ∷ 45 ∷ 57 ∷ 93 ∷ 42 ∷ 125 ∷ []) a
-  → cat (star (reads 0 255)) (cat (reads 69 69) (cat (reads 67 67) (cat (reads 61 61) (capture 1 (cat (reads 48 57) (star (reads 48 57))))))) ≡ a
+    → cat (star (reads 0 255)) (cat (reads 69 69) (cat (reads 67 67) (cat (reads 61 61) (capture 1 (cat (reads 48 57) (star (reads 48 57))))))) ≡ a
 unfolding classOf
 ex2 a p = makes-tree p
 

@@ -1,4 +1,9 @@
--- The bytes of a pattern.
+-- MEANING. The bytes of a pattern (01, "The pattern on the card"). Definitions only.
+--
+-- twelve            the bytes | * # ( ) [ ] { } \ . ~
+-- shown c           the byte c is one of 0x20 to 0x7E; Shown c says so as a statement
+-- classOf c         one of the twelve is reserved, another shown byte is plain, and the others are illegal
+-- Digit c           the byte c is a decimal digit, 48 to 57
 use mathlib.Core.Path.{_≡_}
 use mathlib.Core.Bool.{Bool, true, false, cond, _&&_, _||_}
 use mathlib.Core.List.{List, [], _∷_}
@@ -7,7 +12,6 @@ use lib.Dec.{leb, eqb}
 use Rattle.pattern.specs.declared.Class.{Class}
 use Rattle.pattern.specs.declared.Class.the-variants.{Plain, Reserved, Illegal}
 
--- | * # ( ) [ ] { } \ . ~
 abbrev pub twelve : List ℕ
 twelve = 124 ∷ 42 ∷ 35 ∷ 40 ∷ 41 ∷ 91 ∷ 93 ∷ 123 ∷ 125 ∷ 92 ∷ 46 ∷ 126 ∷ []
 

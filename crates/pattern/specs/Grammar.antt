@@ -1,4 +1,11 @@
--- The grammar of a pattern: which text is which tree. k is the number of variables.
+-- MEANING. The grammar of a pattern: which text is which tree (01, "The pattern on the card"). k is the number of variables. Definitions only.
+--
+-- Pat               what a text says: a byte of a range is read, nothing is read, one or the other, one after the other, zero or more
+--                   passes, a weight charged when what stands before it is left, a variable opened before and closed after, a group
+-- stepsOf a         the steps of a tree: the atoms that read a byte, and two for each capture
+-- nestingOf a       the brackets of a tree open at once: groups and captures
+-- Posts w a b       the postfixes w, from left to right, take the tree a to the tree b
+-- Pattern k w a     the text w is a pattern, and a is its tree; so Term, Factor and Atom
 use mathlib.Core.Path.{_≡_}
 use mathlib.Core.List.{List, [], _∷_, _++_}
 use Prim.Native.Nat.{ℕ, _+_, _*_, _-_, _≤_, max}
@@ -25,7 +32,6 @@ stepsOf (charge n a) = stepsOf a
 stepsOf (capture v a) = 2 + stepsOf a
 stepsOf (grouped a) = stepsOf a
 
--- the brackets open at once
 unfoldable pub nestingOf : Pat → ℕ
 nestingOf (reads lo hi) = 0
 nestingOf nothing = 0
@@ -36,12 +42,11 @@ nestingOf (charge n a) = nestingOf a
 nestingOf (capture v a) = 1 + nestingOf a
 nestingOf (grouped a) = 1 + nestingOf a
 
--- the postfixes w take the tree a to the tree b
 pub data Posts : List ℕ → Pat → Pat → Type 0 where
   none : {a : Pat} → Posts [] a a
   starred : {w : List ℕ} {a b : Pat} → Posts w (star a) b → Posts (42 ∷ w) a b
   marked : {x y z : ℕ} {w : List ℕ} {a b : Pat} → Digit x → Digit y → Digit z
-    → Posts w (charge ((x - 48) * 100 + (y - 48) * 10 + (z - 48)) a) b → Posts (35 ∷ x ∷ y ∷ z ∷ w) a b
+      → Posts w (charge ((x - 48) * 100 + (y - 48) * 10 + (z - 48)) a) b → Posts (35 ∷ x ∷ y ∷ z ∷ w) a b
 
 mutual
   pub data Pattern (k : ℕ) : List ℕ → Pat → Type 0 where

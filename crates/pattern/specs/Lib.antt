@@ -1,5 +1,9 @@
 pub mod Bytes
 pub mod Grammar
 pub mod Derivations
-pub mod Machine
 pub mod Places
+pub mod Machine
+pub mod Found
+pub mod Laws
+pub mod Joins
+pub mod One

@@ -1,4 +1,10 @@
--- A machine that reads a pattern byte by byte, and builds its tree.
+-- METHOD. A machine that reads a pattern byte by byte, and builds its tree. Where it is dead no text of the grammar goes on.
+--
+-- Todo, Frame       what waits for the tree that is being read: of the pattern, of the term, and the open brackets
+-- St                what the machine has read of the text
+-- starts k c        an atom begins with the byte c; begin is the machine's step there
+-- step, run         the machine on one byte, and on a text
+-- done s            a whole pattern stands, and no bracket is open
 use mathlib.Core.Path.{_≡_}
 use mathlib.Core.Bool.{Bool, true, false, cond, _&&_, _||_}
 use mathlib.Core.List.{List, [], _∷_, _++_}
@@ -31,16 +37,16 @@ pub record Todo : Type 0 where
   pub frames : List Frame
 
 pub data St : Type 0 where
-  wants : Todo → St                       -- an atom is to come
-  after : Todo → Pat → St                 -- a factor stands
-  esc : Todo → St                         -- after \
-  br1 : Todo → St                         -- after [
-  br2 : Todo → ℕ → St                     -- after [lo
-  br3 : Todo → ℕ → St                     -- after [lo-
-  br4 : Todo → ℕ → ℕ → St                 -- after [lo-hi
-  va1 : Todo → St                         -- after {
-  va2 : Todo → ℕ → St                     -- after {d
-  ch1 : Todo → Pat → St                   -- after #
+  wants : Todo → St  -- an atom is to come
+  after : Todo → Pat → St  -- a factor stands
+  esc : Todo → St  -- after \
+  br1 : Todo → St  -- after [
+  br2 : Todo → ℕ → St  -- after [lo
+  br3 : Todo → ℕ → St  -- after [lo-
+  br4 : Todo → ℕ → ℕ → St  -- after [lo-hi
+  va1 : Todo → St  -- after {
+  va2 : Todo → ℕ → St  -- after {d
+  ch1 : Todo → Pat → St  -- after #
   ch2 : Todo → Pat → ℕ → St
   ch3 : Todo → Pat → ℕ → ℕ → St
   dead : St

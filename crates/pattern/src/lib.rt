@@ -1,4 +1,4 @@
-// A pattern byte, sorted.
+// The bytes of a pattern, sorted into plain, reserved and illegal (01, "The pattern on the card"). A few comparisons for each byte.
 ghost use mathlib.Core.Path.{_≡_};
 ghost use Rattle.pattern.specs.Bytes.{classOf};
 
@@ -8,7 +8,7 @@ pub enum Class {
     Illegal,
 }
 
-pub fn sort_of(b: u8) -> Class
+pub fn class_of(b: u8) -> Class
     ensures { λ r. ⌜ r ≡ classOf b ⌝ }
 {
     match b {

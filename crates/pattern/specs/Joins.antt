@@ -1,4 +1,4 @@
--- How the parts of a text join.
+-- How the parts of a text that are found join: what is found of each gives what is found of both, and refusal 3 and its place.
 use mathlib.Core.Path.{_≡_, refl, subst, sym, ap, _∙_}
 use mathlib.Core.Bool.{Bool, true, false, cond, _&&_, _||_}
 use mathlib.Core.List.{List, [], _∷_, _++_, append-assoc, append-nil}
@@ -17,8 +17,9 @@ use Rattle.pattern.specs.declared.Class.{Class}
 use Rattle.pattern.specs.declared.Class.the-variants.{Plain, Reserved, Illegal}
 use Rattle.pattern.specs.Grammar.{Pat, reads, nothing, alt, cat, star, charge, capture, stepsOf, nestingOf, Posts, none, starred, marked, Pattern, lone, either, Term, last, thence, Factor, with, Atom, plain, escaped, any, range, empty, group, named}
 use Rattle.pattern.specs.Machine.{Bracket, round, curly, closing, Frame, Todo, St, wants, after, dead, opened, more, other, special, starting, startsBy, starts, begin, shut, follow, step, run, done}
-use Rattle.pattern.specs.Places.{Begins, Refused, Done, Stuck, Opened, PostsDone, PostsStuck, AtomStop, FactorStop, TermStop, PatternStop}
-use Rattle.pattern.proofs.Laws.{run-append, run-dead, after-starts, Headed, run-headed, posts-run, atom-run, factor-run, term-run, pattern-run, fresh}
+use Rattle.pattern.specs.Places.{Begins, Refused}
+use Rattle.pattern.specs.Found.{Done, Stuck, Opened, PostsDone, PostsStuck, AtomStop, FactorStop, TermStop, PatternStop}
+use Rattle.pattern.specs.Laws.{run-append, run-dead, after-starts, Headed, run-headed, posts-run, atom-run, factor-run, term-run, pattern-run, fresh}
 
 pub slice-join : (f m t : ℕ) (l : List ℕ) → f ≤ m → m ≤ t → slice f m l ++ slice m t l ≡ slice f t l
 slice-join zero m t l p q = ap (λ (x : List ℕ). x ++ drop m (take t l)) (sym (take-take m t l q)) ∙ take-append-drop m (take t l)
@@ -65,45 +66,45 @@ no-start k d c h = go (classOf c) h
         rw (or-left (eqb c 92) _ e, or-left (eqb c 46) _ e1, or-left (eqb c 126) _ e2, or-left (eqb c 91) _ e3, or-left (eqb c 40) _ e4, e5)
 
 starts-on : (k : ℕ) (s : List ℕ) (n t : ℕ) (d : Todo) (a : Pat) → starts k (getD s n 0) ≡ true → n < t → t ≤ length s
-  → run k (after d a) (slice n t s) ≡ run k (wants (more d a)) (slice n t s)
+    → run k (after d a) (slice n t s) ≡ run k (wants (more d a)) (slice n t s)
 starts-on k s n t d a h m q =
     run-headed k d a (slice n t s) (record { first = getD s n 0; rest = slice (n + 1) t s; is = slice-one n t s (omega arith) (omega arith); begins = h })
 
 bar-join : (s : List ℕ) (at n e : ℕ) (r : List ℕ) → at ≤ n → n < length s → getD s n 0 ≡ 124 → n + 1 ≤ e → e ≤ length s
-  → slice at n s ++ 124 ∷ (slice (n + 1) e s ++ r) ≡ slice at e s ++ r
+    → slice at n s ++ 124 ∷ (slice (n + 1) e s ++ r) ≡ slice at e s ++ r
 bar-join s at n e r a l h m q =
     ap (λ (c : ℕ). slice at n s ++ c ∷ (slice (n + 1) e s ++ r)) (sym h)
     ∙ (ap (λ (w : List ℕ). slice at n s ++ (w ++ r)) (sym (slice-one n e s (omega arith) q)) ∙ join-rest at n e s r a (omega arith))
 
 -- after a pattern that stops, with another byte than the one that closes the bracket
 unclosed : (k : ℕ) (o b : Pat → Pat) (f : Frame) (fs : List Frame) (a : Pat) (c : ℕ) → PatternStop k c → (c ≡ closing (f .close) → ⊥)
-  → follow k (record { outer = o; before = b; frames = f ∷ fs }) a c ≡ dead
+    → follow k (record { outer = o; before = b; frames = f ∷ fs }) a c ≡ dead
 unclosed k o b f fs a c h n =
     rw (h .0, h .1, h .3, ne-eqb c (closing (f .close)) n) (no-start k (more (record { outer = o; before = b; frames = f ∷ fs }) a) c (h .2))
 
 -- the run past what stands
 past-atom : {k : ℕ} {s : List ℕ} {at n st dp : ℕ} {S : ℕ → ℕ → Type 0} → Done Atom S k s at n st dp → (t : ℕ) → n ≤ t → (d : Todo)
-  → (a : Pat) × (run k (wants d) (slice at t s) ≡ run k (after d a) (slice n t s))
+    → (a : Pat) × (run k (wants d) (slice at t s) ≡ run k (after d a) (slice n t s))
 past-atom {k} {s} {at} {n} x t l d = (x .tree, run-join k (wants d) at n t s (omega arith) l ∙ ap (λ (u : St). run k u (slice n t s)) (atom-run (x .derives) d .runs))
 
 past-factor : {k : ℕ} {s : List ℕ} {at n st dp : ℕ} {S : ℕ → ℕ → Type 0} → Done Factor S k s at n st dp → (t : ℕ) → n ≤ t → (d : Todo)
-  → (a : Pat) × (run k (wants d) (slice at t s) ≡ run k (after d a) (slice n t s))
+    → (a : Pat) × (run k (wants d) (slice at t s) ≡ run k (after d a) (slice n t s))
 past-factor {k} {s} {at} {n} x t l d = (x .tree, run-join k (wants d) at n t s (omega arith) l ∙ ap (λ (u : St). run k u (slice n t s)) (factor-run (x .derives) d .runs))
 
 past-term : {k : ℕ} {s : List ℕ} {at n st dp : ℕ} {S : ℕ → ℕ → Type 0} → Done Term S k s at n st dp → (t : ℕ) → n ≤ t → (d : Todo)
-  → (e : Todo) × (a : Pat) × (run k (wants d) (slice at t s) ≡ run k (after e a) (slice n t s))
+    → (e : Todo) × (a : Pat) × (run k (wants d) (slice at t s) ≡ run k (after e a) (slice n t s))
 past-term {k} {s} {at} {n} x t l d =
     let r = term-run (x .derives) d in
     (record { outer = d .outer; before = r .before; frames = d .frames }, r .tree, run-join k (wants d) at n t s (omega arith) l ∙ ap (λ (u : St). run k u (slice n t s)) (r .runs))
 
 past-bar : {k : ℕ} {s : List ℕ} {at n st dp : ℕ} {S : ℕ → ℕ → Type 0} → Done Term S k s at n st dp → getD s n 0 ≡ 124 → (t : ℕ) → n < t → t ≤ length s → (d : Todo)
-  → (e : Todo) × (run k (wants d) (slice at t s) ≡ run k (wants e) (slice (n + 1) t s))
+    → (e : Todo) × (run k (wants d) (slice at t s) ≡ run k (wants e) (slice (n + 1) t s))
 past-bar {k} {s} {at} {n} x h t l m d =
     let r = past-term x t (omega arith) d in
     (other (r .0) (r .1), r .2 ∙ (ap (run k (after (r .0) (r .1))) (slice-one n t s (omega arith) m) ∙ ap (λ (c : ℕ). run k (follow k (r .0) (r .1) c) (slice (n + 1) t s)) h))
 
 past-open : {k : ℕ} {s : List ℕ} {at i c st : ℕ} (o : Opened k s at i c st) → (t : ℕ) → i ≤ t → (d : Todo)
-  → run k (wants d) (slice at t s) ≡ run k (wants (opened d (o .bracket) (o .wrap))) (slice i t s)
+    → run k (wants d) (slice at t s) ≡ run k (wants (opened d (o .bracket) (o .wrap))) (slice i t s)
 past-open {k} {s} {at} {i} o t l d = run-join k (wants d) at i t s (omega arith) l ∙ ap (λ (u : St). run k u (slice i t s)) (o .opens d)
 
 module _ {k : ℕ} {s : List ℕ} where
@@ -113,121 +114,172 @@ module _ {k : ℕ} {s : List ℕ} where
     within = p .within;
     tree = p .tree (x .tree);
     derives = subst (λ (w : List ℕ). Factor k w (p .tree (x .tree))) (slice-join at n e s (omega arith) (p .past)) (with (x .derives) (p .derives (x .tree)));
-    deep = x .deep ∙ sym (p .level (x .tree)); shallow = omega arith; counts = x .counts ∙ sym (p .counts (x .tree));
+    deep = x .deep ∙ sym (p .level (x .tree));
+    shallow = omega arith;
+    counts = x .counts ∙ sym (p .counts (x .tree));
     few = omega arith;
-    stops = p .stops
-    }
+    stops = p .stops;
+  }
 
   pub factor-bad : {at p : ℕ} → Stuck Atom k s at p → Stuck Factor k s at p
   factor-bad {at} {p} x = record {
-    from = x .from; within = x .within; rest = x .rest; tree = x .tree;
+    from = x .from;
+    within = x .within;
+    rest = x .rest;
+    tree = x .tree;
     viable = subst (λ (w : List ℕ). Factor k w (x .tree)) (append-nil (slice at p s ++ x .rest)) (with (x .viable) none);
-    dies = x .dies; short = x .short; some = x .some
-    }
+    dies = x .dies;
+    short = x .short;
+    some = x .some;
+  }
 
   pub factor-bad-2 : {at n st dp p : ℕ} → Done Atom AtomStop k s at n st dp → PostsStuck s n p → Stuck Factor k s at p
   factor-bad-2 {at} {n} {st} {dp} {p} x q = record {
-    from = omega arith; within = q .within; rest = q .rest; tree = q .tree (x .tree);
+    from = omega arith;
+    within = q .within;
+    rest = q .rest;
+    tree = q .tree (x .tree);
     viable = subst (λ (w : List ℕ). Factor k w (q .tree (x .tree))) (join-rest at n p s (q .rest) (omega arith) (q .from)) (with (x .derives) (q .viable (x .tree)));
     dies = λ l d. let r = past-atom x (p + 1) (omega arith) d in r .1 ∙ q .dies l k d (r .0);
     short = λ d. let r = past-atom x p (q .from) d in ap done (r .1) ∙ q .short k d (r .0);
-    some = λ _ _. omega arith
-    }
+    some = λ _ _. omega arith;
+  }
 
   pub term-good : {at n st dp : ℕ} → Done Factor FactorStop k s at n st dp → (n < length s → starts k (getD s n 0) ≡ false) → Done Term TermStop k s at n st dp
   term-good f h = record {
-    past = f .past; within = f .within; tree = f .tree; derives = last (f .derives); counts = f .counts; few = f .few; deep = f .deep; shallow = f .shallow;
-    stops = λ l. (f .stops l .0, f .stops l .1, h l)
-    }
+    past = f .past;
+    within = f .within;
+    tree = f .tree;
+    derives = last (f .derives);
+    counts = f .counts;
+    few = f .few;
+    deep = f .deep;
+    shallow = f .shallow;
+    stops = λ l. (f .stops l .0, f .stops l .1, h l);
+  }
 
   pub term-good-2 : {at n e st m dp dq : ℕ} → Done Factor FactorStop k s at n st dp → Done Term TermStop k s n e m dq → Done Term TermStop k s at e (st + m) (max dp dq)
   unfolding stepsOf nestingOf
   term-good-2 {at} {n} {e} {st} {m} {dp} {dq} f t = record {
-    past = omega arith; within = t .within; tree = cat (f .tree) (t .tree);
+    past = omega arith;
+    within = t .within;
+    tree = cat (f .tree) (t .tree);
     derives = subst (λ (w : List ℕ). Term k w (cat (f .tree) (t .tree))) (slice-join at n e s (omega arith) (omega arith)) (thence (f .derives) (t .derives));
-    counts = omega arith; few = omega arith; deep = rw (f .deep, t .deep); shallow = omega arith;
-    stops = t .stops
-    }
+    counts = omega arith;
+    few = omega arith;
+    deep = rw (f .deep, t .deep);
+    shallow = omega arith;
+    stops = t .stops;
+  }
 
   pub term-bad : {at p : ℕ} → Stuck Factor k s at p → Stuck Term k s at p
   term-bad x = record { from = x .from; within = x .within; rest = x .rest; tree = x .tree; viable = last (x .viable); dies = x .dies; short = x .short; some = x .some }
 
   pub term-bad-2 : {at n st dp p : ℕ} → Done Factor FactorStop k s at n st dp → n < length s → starts k (getD s n 0) ≡ true → Stuck Term k s n p → Stuck Term k s at p
   term-bad-2 {at} {n} {st} {dp} {p} f l h t = record {
-    from = omega arith; within = t .within; rest = t .rest; tree = cat (f .tree) (t .tree);
+    from = omega arith;
+    within = t .within;
+    rest = t .rest;
+    tree = cat (f .tree) (t .tree);
     viable = subst (λ (w : List ℕ). Term k w (cat (f .tree) (t .tree))) (join-rest at n p s (t .rest) (omega arith) (t .from)) (thence (f .derives) (t .viable));
     dies = λ m d. let r = past-factor f (p + 1) (omega arith) d in r .1 ∙ (starts-on k s n (p + 1) d (r .0) h (omega arith) (omega arith) ∙ t .dies m (more d (r .0)));
     short = λ d. let q = t .some l h in let r = past-factor f p (t .from) d in ap done (r .1 ∙ starts-on k s n p d (r .0) h q (t .within)) ∙ t .short (more d (r .0));
-    some = λ _ _. omega arith
-    }
+    some = λ _ _. omega arith;
+  }
 
   pub pattern-good : {at n st dp : ℕ} → Done Term TermStop k s at n st dp → (n < length s → eqb (getD s n 0) 124 ≡ false) → Done Pattern PatternStop k s at n st dp
   pattern-good f h = record {
-    past = f .past; within = f .within; tree = f .tree; derives = lone (f .derives); counts = f .counts; few = f .few; deep = f .deep; shallow = f .shallow;
-    stops = λ l. (f .stops l .0, f .stops l .1, f .stops l .2, h l)
-    }
+    past = f .past;
+    within = f .within;
+    tree = f .tree;
+    derives = lone (f .derives);
+    counts = f .counts;
+    few = f .few;
+    deep = f .deep;
+    shallow = f .shallow;
+    stops = λ l. (f .stops l .0, f .stops l .1, f .stops l .2, h l);
+  }
 
   pub pattern-good-2 : {at n e st m dp dq : ℕ} → Done Term TermStop k s at n st dp → n < length s → getD s n 0 ≡ 124 → Done Pattern PatternStop k s (n + 1) e m dq → Done Pattern PatternStop k s at e (st + m) (max dp dq)
   unfolding stepsOf nestingOf
   pattern-good-2 {at} {n} {e} {st} {m} {dp} {dq} f l h t = record {
-    past = omega arith; within = t .within; tree = alt (f .tree) (t .tree);
+    past = omega arith;
+    within = t .within;
+    tree = alt (f .tree) (t .tree);
     derives = subst (λ (w : List ℕ). Pattern k w (alt (f .tree) (t .tree)))
-      (ap (λ (w : List ℕ). slice at n s ++ 124 ∷ w) (sym (append-nil (slice (n + 1) e s))) ∙ (bar-join s at n e [] (omega arith) l h (omega arith) (t .within) ∙ append-nil (slice at e s)))
-      (either (f .derives) (t .derives));
-    counts = omega arith; few = omega arith; deep = rw (f .deep, t .deep); shallow = omega arith;
-    stops = t .stops
-    }
+        (ap (λ (w : List ℕ). slice at n s ++ 124 ∷ w) (sym (append-nil (slice (n + 1) e s))) ∙ (bar-join s at n e [] (omega arith) l h (omega arith) (t .within) ∙ append-nil (slice at e s)))
+        (either (f .derives) (t .derives));
+    counts = omega arith;
+    few = omega arith;
+    deep = rw (f .deep, t .deep);
+    shallow = omega arith;
+    stops = t .stops;
+  }
 
   pub pattern-bad : {at p : ℕ} → Stuck Term k s at p → Stuck Pattern k s at p
   pattern-bad x = record { from = x .from; within = x .within; rest = x .rest; tree = x .tree; viable = lone (x .viable); dies = x .dies; short = x .short; some = x .some }
 
   pub pattern-bad-2 : {at n st dp p : ℕ} → Done Term TermStop k s at n st dp → n < length s → getD s n 0 ≡ 124 → Stuck Pattern k s (n + 1) p → Stuck Pattern k s at p
   pattern-bad-2 {at} {n} {st} {dp} {p} f l h t = record {
-    from = omega arith; within = t .within; rest = t .rest; tree = alt (f .tree) (t .tree);
+    from = omega arith;
+    within = t .within;
+    rest = t .rest;
+    tree = alt (f .tree) (t .tree);
     viable = subst (λ (w : List ℕ). Pattern k w (alt (f .tree) (t .tree))) (bar-join s at n p (t .rest) (omega arith) l h (t .from) (t .within)) (either (f .derives) (t .viable));
     dies = λ m d. let r = past-bar f h (p + 1) (omega arith) (omega arith) d in r .1 ∙ t .dies m (r .0);
     short = λ d. let r = past-bar f h p (omega arith) (t .within) d in ap done (r .1) ∙ t .short (r .0);
-    some = λ _ _. omega arith
-    }
+    some = λ _ _. omega arith;
+  }
 
   pub atom-good : {at i n c st m dp : ℕ} → Opened k s at i c st → Done Pattern PatternStop k s i n m dp → n < length s → getD s n 0 ≡ c → Done Atom AtomStop k s at (n + 1) (st + m) (1 + dp)
   atom-good {at} {i} {n} {c} {st} {m} {dp} o p l h = record {
-    past = omega arith; within = omega arith; tree = o .wrap (p .tree);
+    past = omega arith;
+    within = omega arith;
+    tree = o .wrap (p .tree);
     derives = subst (λ (w : List ℕ). Atom k w (o .wrap (p .tree)))
-      (ap (λ (x : ℕ). slice at i s ++ (slice i n s ++ x ∷ [])) (sym (o .closes) ∙ sym h)
-      ∙ (ap (λ (w : List ℕ). slice at i s ++ (slice i n s ++ w)) (sym (slice-byte n s l))
-      ∙ (ap (λ (w : List ℕ). slice at i s ++ w) (slice-join i n (n + 1) s (omega arith) (omega arith))
-      ∙ slice-join at i (n + 1) s (omega arith) (omega arith))))
-      (o .makes (p .derives));
-    counts = ap (λ (x : ℕ). st + x) (p .counts) ∙ sym (o .counts (p .tree)); few = omega arith; deep = ap (λ (x : ℕ). 1 + x) (p .deep) ∙ sym (o .deepens (p .tree)); shallow = omega arith;
-    stops = λ _. tt
-    }
+        (ap (λ (x : ℕ). slice at i s ++ (slice i n s ++ x ∷ [])) (sym (o .closes) ∙ sym h)
+        ∙ (ap (λ (w : List ℕ). slice at i s ++ (slice i n s ++ w)) (sym (slice-byte n s l))
+        ∙ (ap (λ (w : List ℕ). slice at i s ++ w) (slice-join i n (n + 1) s (omega arith) (omega arith))
+        ∙ slice-join at i (n + 1) s (omega arith) (omega arith))))
+        (o .makes (p .derives));
+    counts = ap (λ (x : ℕ). st + x) (p .counts) ∙ sym (o .counts (p .tree));
+    few = omega arith;
+    deep = ap (λ (x : ℕ). 1 + x) (p .deep) ∙ sym (o .deepens (p .tree));
+    shallow = omega arith;
+    stops = λ _. tt;
+  }
 
   pub atom-bad : {at i c st p : ℕ} → Opened k s at i c st → Stuck Pattern k s i p → Stuck Atom k s at p
   atom-bad {at} {i} {c} {st} {p} o q = record {
-    from = omega arith; within = q .within; rest = q .rest ++ closing (o .bracket) ∷ []; tree = o .wrap (q .tree);
+    from = omega arith;
+    within = q .within;
+    rest = q .rest ++ closing (o .bracket) ∷ [];
+    tree = o .wrap (q .tree);
     viable = subst (λ (w : List ℕ). Atom k w (o .wrap (q .tree)))
-      (ap (λ (w : List ℕ). slice at i s ++ w) (append-assoc (slice i p s) (q .rest) (closing (o .bracket) ∷ [])) ∙ join-rest at i p s (q .rest ++ closing (o .bracket) ∷ []) (omega arith) (q .from))
-      (o .makes (q .viable));
+        (ap (λ (w : List ℕ). slice at i s ++ w) (append-assoc (slice i p s) (q .rest) (closing (o .bracket) ∷ [])) ∙ join-rest at i p s (q .rest ++ closing (o .bracket) ∷ []) (omega arith) (q .from))
+        (o .makes (q .viable));
     dies = λ m d. past-open o (p + 1) (omega arith) d ∙ q .dies m (opened d (o .bracket) (o .wrap));
     short = λ d. ap done (past-open o p (q .from) d) ∙ q .short (opened d (o .bracket) (o .wrap));
-    some = λ _ _. omega arith
-    }
+    some = λ _ _. omega arith;
+  }
 
   pub atom-bad-2 : {at i n c st m dp : ℕ} → Opened k s at i c st → Done Pattern PatternStop k s i n m dp → (n < length s → getD s n 0 ≡ c → ⊥) → Stuck Atom k s at n
   atom-bad-2 {at} {i} {n} {c} {st} {m} {dp} o p h = record {
-    from = omega arith; within = p .within; rest = closing (o .bracket) ∷ []; tree = o .wrap (p .tree);
+    from = omega arith;
+    within = p .within;
+    rest = closing (o .bracket) ∷ [];
+    tree = o .wrap (p .tree);
     viable = subst (λ (w : List ℕ). Atom k w (o .wrap (p .tree))) (join-rest at i n s (closing (o .bracket) ∷ []) (omega arith) (omega arith)) (o .makes (p .derives));
     dies = λ l d.
-      let r = pattern-run (p .derives) (λ x. x) (opened d (o .bracket) (o .wrap) .frames) in
-      past-open o (n + 1) (omega arith) d
-      ∙ (run-join k (wants (opened d (o .bracket) (o .wrap))) i n (n + 1) s (omega arith) (omega arith)
-      ∙ (ap (λ (u : St). run k u (slice n (n + 1) s)) (r .runs)
-      ∙ (ap (run k (after (record { outer = r .outer; before = r .before; frames = opened d (o .bracket) (o .wrap) .frames }) (r .tree))) (slice-byte n s l)
-      ∙ unclosed k (r .outer) (r .before) _ (d .frames) (r .tree) (getD s n 0) (p .stops l) (λ e. h l (e ∙ sym (o .closes))))));
+        let r = pattern-run (p .derives) (λ x. x) (opened d (o .bracket) (o .wrap) .frames) in
+        past-open o (n + 1) (omega arith) d
+        ∙ (run-join k (wants (opened d (o .bracket) (o .wrap))) i n (n + 1) s (omega arith) (omega arith)
+        ∙ (ap (λ (u : St). run k u (slice n (n + 1) s)) (r .runs)
+        ∙ (ap (run k (after (record { outer = r .outer; before = r .before; frames = opened d (o .bracket) (o .wrap) .frames }) (r .tree))) (slice-byte n s l)
+        ∙ unclosed k (r .outer) (r .before) _ (d .frames) (r .tree) (getD s n 0) (p .stops l) (λ e. h l (e ∙ sym (o .closes))))));
     short = λ d. ap done (past-open o n (omega arith) d ∙ pattern-run (p .derives) (λ x. x) (opened d (o .bracket) (o .wrap) .frames) .runs);
-    some = λ _ _. omega arith
-    }
+    some = λ _ _. omega arith;
+  }
 
 -- the start of the machine
 abbrev pub begun : St
@@ -249,8 +301,9 @@ refuses k s p l b dies short = record { outside = out; within = l; begins = b; l
         contra e (ap (λ (w : List ℕ). done (run k begun (w ++ g .rest))) (sym (take-append-drop (p + 1) (take q s)))
         ∙ (ap (λ (w : List ℕ). done (run k begun ((w ++ drop (p + 1) (take q s)) ++ g .rest))) (take-take (p + 1) q s (omega arith))
         ∙ ap done (run-append k begun (take (p + 1) s ++ drop (p + 1) (take q s)) (g .rest)
-          ∙ (ap (λ (u : St). run k u (g .rest)) (run-append k begun (take (p + 1) s) (drop (p + 1) (take q s)) ∙ (ap (λ (u : St). run k u (drop (p + 1) (take q s))) (dies (omega arith)) ∙ run-dead k (drop (p + 1) (take q s))))
-          ∙ run-dead k (g .rest)))))
+        ∙ (ap (λ (u : St). run k u (g .rest)) (run-append k begun (take (p + 1) s) (drop (p + 1) (take q s)) ∙ (ap (λ (u : St). run k u (drop (p + 1) (take q s))) (dies (omega arith)) ∙ run-dead k (drop (p + 1) (take q s))))
+        ∙ run-dead k (g .rest)))))
+
     out : (a : Pat) → Pattern k s a → ⊥
     out a g = ⊎-elim (λ (e : p ≡ length s). contra (done-pattern g) (short e))
         (λ (h : p < length s). most (length s) h (omega arith) (record { rest = []; tree = a; whole = subst (λ (w : List ℕ). Pattern k w a) (sym (append-nil (take (length s) s) ∙ take-length s)) g }))
@@ -267,9 +320,9 @@ refused-after {k} {s} {n} x l =
     let r = pattern-run (x .derives) (λ y. y) [] in
     refuses k s n (x .within) (record { rest = []; tree = x .tree; whole = subst (λ (w : List ℕ). Pattern k w (x .tree)) (sym (append-nil (take n s))) (x .derives) })
     (λ _. run-join k begun 0 n (n + 1) s (omega arith) (omega arith)
-      ∙ (ap (λ (u : St). run k u (slice n (n + 1) s)) (r .runs)
-      ∙ (ap (run k (after (record { outer = r .outer; before = r .before; frames = [] }) (r .tree))) (slice-byte n s l)
-      ∙ stopped (r .outer) (r .before) (r .tree) (x .stops l))))
+    ∙ (ap (λ (u : St). run k u (slice n (n + 1) s)) (r .runs)
+    ∙ (ap (run k (after (record { outer = r .outer; before = r .before; frames = [] }) (r .tree))) (slice-byte n s l)
+    ∙ stopped (r .outer) (r .before) (r .tree) (x .stops l))))
     (λ e. absurd (omega arith))
   where
     stopped : (o b : Pat → Pat) (a : Pat) → PatternStop k (getD s n 0) → follow k (record { outer = o; before = b; frames = [] }) a (getD s n 0) ≡ dead

@@ -1,3 +1,4 @@
+-- `pattern::class_of` meets its contract: each interval of the match is tested at each of its bytes.
 use mathlib.Core.Path.{_≡_, refl, subst, sym, ap}
 use mathlib.Core.Logic.{inl, inr, ⊎-elim}
 use Prim.Native.Nat.{ℕ}
@@ -5,8 +6,8 @@ use native.Mathlib.Omega.{arith}
 use Rattle.pattern.specs.declared.Class.the-variants.{Plain, Reserved, Illegal}
 use Rattle.pattern.specs.Bytes.{classOf}
 use Rattle.pattern.proofs.Between.{sorted}
-use Rattle.pattern.proofs.sort_of.Statement.{statement}
-use Rattle.pattern.proofs.sort_of.Tie as tie
+use Rattle.pattern.proofs.class_of.Statement.{statement}
+use Rattle.pattern.proofs.class_of.Tie as tie
 
 -- 32 to 39
 returns : tie.Need-returns
@@ -45,5 +46,5 @@ returns-9 : tie.Need-returns-9
 unfolding classOf
 returns-9 c = sorted Reserved 123 4 tt (c .before .before .before .before .before .before .before .before .args .b) (λ e. c .before .before .before .before .before .before .before .match .rest .1 (inl e)) (λ e. c .before .before .before .before .before .before .before .match .rest .1 (inr e)) (omega arith) (omega arith)
 
-pub sort-of-spec : {M : Type 1} → statement M
-sort-of-spec = tie.close (tie.spec returns returns-2 returns-3 returns-4 returns-5 returns-6 returns-7 returns-8 returns-9)
+pub class-of-spec : {M : Type 1} → statement M
+class-of-spec = tie.close (tie.spec returns returns-2 returns-3 returns-4 returns-5 returns-6 returns-7 returns-8 returns-9)

@@ -1,4 +1,4 @@
--- What the machine does on a text of the grammar.
+-- What the machine does on a text of the grammar: it builds the text's tree, so one text has one tree (tree-one).
 use mathlib.Core.Path.{_≡_, refl, subst, sym, ap, _∙_}
 use mathlib.Core.Bool.{Bool, true, false, cond, _&&_, _||_}
 use mathlib.Core.List.{List, [], _∷_, _++_}
@@ -31,7 +31,7 @@ not-at : (k c x : ℕ) → starts k x ≡ false → starts k c ≡ true → eqb 
 not-at k c x f h = ne-eqb c x (λ e. let z : false ≡ true = sym f ∙ (ap (λ (y : ℕ). starts k y) (sym e) ∙ h) in (let y : _≡_ {A = ℕ} 0 1 = cc in omega arith))
 
 not-post : (k c : ℕ) → starts k c ≡ true
-  → (eqb c 42 ≡ false) × (eqb c 35 ≡ false) × (eqb c 124 ≡ false) × (eqb c 41 ≡ false) × (eqb c 125 ≡ false)
+    → (eqb c 42 ≡ false) × (eqb c 35 ≡ false) × (eqb c 124 ≡ false) × (eqb c 41 ≡ false) × (eqb c 125 ≡ false)
 unfolding classOf
 not-post k c h = (not-at k c 42 refl h, not-at k c 35 refl h, not-at k c 124 refl h, not-at k c 41 refl h, not-at k c 125 refl h)
 
@@ -116,7 +116,7 @@ module _ {k : ℕ} where
         before = q .before;
         tree = q .tree;
         runs = run-append k (wants (fresh o fs)) u (124 ∷ v) ∙ (ap (λ (s : St). run k s (124 ∷ v)) (r .runs) ∙ q .runs);
-        makes = q .makes ∙ ap (λ (x : Pat). o (alt x b)) (r .makes)
+        makes = q .makes ∙ ap (λ (x : Pat). o (alt x b)) (r .makes);
       }
 
   thence-run : {u v : List ℕ} {a b : Pat} → ((d : Todo) → RanAtom k d u a) → Headed k v → ((d : Todo) → RanTerm k d v b) → (d : Todo) → RanTerm k d (u ++ v) (cat a b)
@@ -126,7 +126,7 @@ module _ {k : ℕ} where
         before = q .before;
         tree = q .tree;
         runs = run-append k (wants d) u v ∙ (ap (λ (s : St). run k s v) (f d .runs) ∙ (run-headed k d a v h ∙ q .runs));
-        makes = q .makes
+        makes = q .makes;
       }
 
   with-run : {u v : List ℕ} {a b : Pat} → ((d : Todo) → RanAtom k d u a) → Posts v a b → (d : Todo) → RanAtom k d (u ++ v) b
@@ -153,7 +153,7 @@ module _ {k : ℕ} where
 
   -- what stands in a bracket
   inside-run : (w : List ℕ) {a : Pat} (b : Bracket) (f : Pat → Pat) (d : Todo) → Ran k (λ x. x) (opened d b f .frames) w a
-    → run k (wants (opened d b f)) (w ++ closing b ∷ []) ≡ after d (f a)
+      → run k (wants (opened d b f)) (w ++ closing b ∷ []) ≡ after d (f a)
   inside-run w {a} b f d r =
       run-append k (wants (opened d b f)) w (closing b ∷ []) ∙ (ap (λ (s : St). run k s (closing b ∷ [])) (r .runs) ∙ (shuts b ∙ ap (λ (x : Pat). after d (f x)) (r .makes)))
     where
@@ -167,7 +167,7 @@ module _ {k : ℕ} where
   group-run {w} p d = record { runs = inside-run w round grouped d (p (λ x. x) (opened d round grouped .frames)) }
 
   named-run : {v : ℕ} {w : List ℕ} {a : Pat} → 49 ≤ v → v ≤ 48 + k → ((o : Pat → Pat) (fs : List Frame) → Ran k o fs w a) → (d : Todo)
-    → RanAtom k d (123 ∷ v ∷ 58 ∷ (w ++ 125 ∷ [])) (capture (v - 48) a)
+      → RanAtom k d (123 ∷ v ∷ 58 ∷ (w ++ 125 ∷ [])) (capture (v - 48) a)
   named-run {v} {w} l h p d = record { runs = ap (λ (s : St). run k s (w ++ 125 ∷ [])) (named-opens k v l h d) ∙ inside-run w curly (capture (v - 48)) d (p (λ x. x) (opened d curly (capture (v - 48)) .frames)) }
 
   lone-run : {w : List ℕ} {a : Pat} → ((d : Todo) → RanTerm k d w a) → (o : Pat → Pat) (fs : List Frame) → Ran k o fs w a
@@ -179,22 +179,23 @@ module _ {k : ℕ} where
 pub pattern-run : {k : ℕ} {w : List ℕ} {a : Pat} → Pattern k w a → (o : Pat → Pat) (fs : List Frame) → Ran k o fs w a
 pattern-run {k} p =
     elim p as
-      (λ w a x. (o : Pat → Pat) (fs : List Frame) → Ran k o fs w a)
-      (λ w a x. (d : Todo) → RanTerm k d w a)
-      (λ w a x. (d : Todo) → RanAtom k d w a)
-      (λ w a x. (d : Todo) → RanAtom k d w a)
-    [ lone (t → h) ↦ lone-run h
-    | either (t → h) (q → g) ↦ either-run h g
-    | last (f → h) ↦ last-run h
-    | thence (f → h) (t → g) ↦ thence-run h (term-headed t) g
-    | with (x → h) q ↦ with-run h q
-    | plain h ↦ plain-run h
-    | escaped h ↦ escaped-run h
-    | any ↦ any-run
-    | range p q l ↦ range-run p q l
-    | empty ↦ empty-run
-    | group (p → h) ↦ group-run h
-    | named l m (p → h) ↦ named-run l m h ]
+    (λ w a x. (o : Pat → Pat) (fs : List Frame) → Ran k o fs w a)
+    (λ w a x. (d : Todo) → RanTerm k d w a)
+    (λ w a x. (d : Todo) → RanAtom k d w a)
+    (λ w a x. (d : Todo) → RanAtom k d w a) [
+      | lone (t → h) ↦ lone-run h
+      | either (t → h) (q → g) ↦ either-run h g
+      | last (f → h) ↦ last-run h
+      | thence (f → h) (t → g) ↦ thence-run h (term-headed t) g
+      | with (x → h) q ↦ with-run h q
+      | plain h ↦ plain-run h
+      | escaped h ↦ escaped-run h
+      | any ↦ any-run
+      | range p q l ↦ range-run p q l
+      | empty ↦ empty-run
+      | group (p → h) ↦ group-run h
+      | named l m (p → h) ↦ named-run l m h
+    ]
 
 pub atom-run : {k : ℕ} {w : List ℕ} {a : Pat} → Atom k w a → (d : Todo) → RanAtom k d w a
 atom-run (plain h) = plain-run h
@@ -228,9 +229,9 @@ made (ch2 d a x) = nothing
 made (ch3 d a x y) = nothing
 made dead = nothing
 
--- one text has one tree
 pub makes-tree : {k : ℕ} {w : List ℕ} {a : Pat} → Pattern k w a → made (run k (wants (fresh (λ x. x) [])) w) ≡ a
 makes-tree p = let r = pattern-run p (λ x. x) [] in ap made (r .runs) ∙ r .makes
 
-pub unambiguous : {k : ℕ} {w : List ℕ} {a b : Pat} → Pattern k w a → Pattern k w b → a ≡ b
-unambiguous p q = sym (makes-tree p) ∙ makes-tree q
+-- one text has one tree
+pub tree-one : {k : ℕ} {w : List ℕ} {a b : Pat} → Pattern k w a → Pattern k w b → a ≡ b
+tree-one p q = sym (makes-tree p) ∙ makes-tree q
