@@ -1,2 +1,3 @@
 pub mod ToGo
 pub mod Price
+pub mod Runs
