@@ -6,9 +6,9 @@
 -- settles-wants       both at once, over any setting
 -- settles-valid       THE THEOREM: from the setting to begin in, settles is valid
 use mathlib.Core.Path.{_≡_, refl, sym, ap, ap₂, _∙_}
-use mathlib.Core.Bool.{Bool, true, false, cond, _&&_, not, _||_, and-false, false≢true}
+use mathlib.Core.Bool.{Bool, true, false, cond, not, _||_, and-false, false≢true}
 use mathlib.Core.List.{List, [], _∷_}
-use Prim.Native.Nat.{ℕ, zero, suc, _+_, _-_, _*_, _/_, _%_, _^_, _≤_, _<_}
+use Prim.Native.Nat.{ℕ, zero, suc, _-_, _/_, _%_, _≤_, _<_}
 use native.Mathlib.Omega.{arith}
 use native.Mathlib.Decide.{decLt, ℕ-discrete}
 use lib.Dec.{ltb, eqb}
@@ -16,7 +16,7 @@ use borrow.Author.Tests.{eq-eqb, ne-eqb, lt-ltb, le-ltb, eqb-true, ltb-true}
 use Rattle.basics.specs.Decides.{Decides, decided-one}
 use Rattle.basics.specs.Every.{every, every-at, and-true}
 use Rattle.basics.specs.Lists.{All, equal, equal-true, equal-refl}
-use Rattle.marks.specs.Labels.{Label, RightLabel, byte, opens, closes, isByte, kindsOf, valid}
+use Rattle.marks.specs.Labels.{Label, RightLabel, byte, opens, closes, kindsOf, valid}
 use Rattle.setting.specs.Setting.{digitOf, moveOf, markerOf, settles, begin}
 
 pub data Settled : ℕ → List Label → Type 0 where
