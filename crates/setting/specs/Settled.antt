@@ -3,12 +3,13 @@
 -- Settled u ls        the markers of ls are taken one after the other from setting u: settles, step by step
 -- wants u v           the kinds of the markers that variable v + 1 still wants in setting u
 -- Wants u ls          the markers of ls are, variable by variable, what setting u wants
+-- had u               how many markers setting u has had
 -- settles-wants       both at once, over any setting
 -- settles-valid       THE THEOREM: from the setting to begin in, settles is valid
 use mathlib.Core.Path.{_≡_, refl, sym, ap, ap₂, _∙_}
 use mathlib.Core.Bool.{Bool, true, false, cond, not, _||_, and-false, false≢true}
 use mathlib.Core.List.{List, [], _∷_}
-use Prim.Native.Nat.{ℕ, zero, suc, _-_, _/_, _%_, _≤_, _<_}
+use Prim.Native.Nat.{ℕ, zero, suc, _+_, _*_, _-_, _/_, _%_, _≤_, _<_}
 use native.Mathlib.Omega.{arith}
 use native.Mathlib.Decide.{decLt, ℕ-discrete}
 use lib.Dec.{ltb, eqb}
@@ -99,6 +100,19 @@ wants-taken u m xs hu hm e = go (decLt (moveOf u m) 27)
     go : Dec (moveOf u m < 27) → moveOf u m < 27
     go (yes h) = h
     go (no h) = absurd (false≢true (rw (le-ltb (moveOf u m) 27 (omega arith), eq-eqb (suc (m / 2)) (suc (m / 2)) refl, ← e, eq-eqb (suc (m % 2)) (suc (m % 2)) refl) at (ruled u m (m / 2) hu hm (omega arith))))
+
+abbrev pub had : ℕ → ℕ
+had u = u % 3 + u / 3 % 3 + u / 9 % 3
+
+one-more : ℕ → ℕ → Bool
+one-more u m = not (ltb (moveOf u m) 27) || eqb (had (moveOf u m)) (suc (had u))
+
+pub move-had : (u m : ℕ) → u < 27 → m < 6 → moveOf u m < 27 → had (moveOf u m) ≡ suc (had u)
+unfolding one-more moveOf
+move-had u m hu hm h = eqb-true _ _ (rw (lt-ltb _ _ h) at (every-at (one-more u) 6 (every-at (λ u. every (one-more u) 6) 27 refl u hu) m hm))
+
+pub begin-had : (K : ℕ) → K ≤ 3 → had (begin K) + 2 * K ≡ 6
+begin-had K hK = eqb-true _ _ (every-at (λ K. eqb (had (begin K) + 2 * K) 6) 4 refl K (omega arith))
 
 -- a right label's own variable and kind, in place of its marker's
 abbrev pub Right : ℕ → Label → Type 0
