@@ -4,7 +4,7 @@
 -- decided-one     two answers that decide one statement are equal
 -- yes-so, no-so   what holds is decided by true, what does not by false
 use mathlib.Core.Path.{_≡_, refl, sym, _∙_}
-use mathlib.Core.Bool.{Bool, true, false, false≢true}
+use mathlib.Core.Bool.{Bool, true, false, not, false≢true}
 
 pub record Decides (P : Type 0) (b : Bool) : Type 0 where
   pub so : b ≡ true → P
@@ -25,3 +25,12 @@ no-so f = record { so = λ e. absurd (false≢true e); not-so = λ _ q. f q }
 -- a statement that is the same as one that is decided
 pub decides-as : {P Q : Type 0} {b : Bool} → (P → Q) → (Q → P) → Decides P b → Decides Q b
 decides-as f g d = record { so = λ e. f (d .so e); not-so = λ e q. d .not-so e (g q) }
+
+-- a test that was turned round
+pub untrue : (b : Bool) → not b ≡ true → b ≡ false
+untrue true e = absurd (false≢true e)
+untrue false e = refl
+
+pub unfalse : (b : Bool) → not b ≡ false → b ≡ true
+unfalse true e = refl
+unfalse false e = sym e
