@@ -1,3 +1,4 @@
 pub mod ToGo
 pub mod Price
 pub mod Runs
+pub mod Equation
