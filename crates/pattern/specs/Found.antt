@@ -1,10 +1,11 @@
 -- METHOD. What a part of a text is found to be, from a place of the text s on.
 --
--- Done G S k s at n st dp   from at up to n stands a G, of st steps and nesting dp; S holds of the byte at n, if there is one
+-- Done G S k s at n a       from at up to n stands a G, whose tree is a; S holds of the byte at n, if there is one
 -- Stuck G k s at p          the text from at up to p begins a G, and with the byte at p, if there is one, it begins none
--- Opened k s at n c st      from at up to n a bracket is opened, which the byte c closes; it has st steps of its own
--- PostsDone, PostsStuck     the same of postfixes, over the tree that stands before them
--- Marked s at n             a weight mark from at up to n
+-- Opened k s at n c wrap    from at up to n a bracket is opened, which the byte c closes; wrap makes its tree of its inside's
+-- PostsDone s at n turn     from at up to n stand all the postfixes there are; turn is what they make of a tree
+-- PostsStuck s at p         as Stuck, of postfixes
+-- Marked s at n w           from at up to n stands a weight mark, of weight w
 -- AtomStop ..               what the byte after an atom, a factor, a term, a pattern is not
 use mathlib.Core.Path.{_≡_}
 use mathlib.Core.Bool.{true, false}
@@ -13,18 +14,15 @@ use Prim.Native.Nat.{ℕ, _+_, _≤_, _<_}
 use lib.ListN.{length, getD}
 use lib.Seq.{slice}
 use lib.Dec.{eqb}
-use Rattle.pattern.specs.Grammar.{Pat, stepsOf, nestingOf, Posts, Pattern, Atom}
+use Rattle.pattern.specs.Grammar.{Pat, charge, stepsOf, nestingOf, Posts, Pattern, Atom}
 use Rattle.pattern.specs.Machine.{Todo, Bracket, closing, wants, after, dead, opened, starts, run, done}
 
-pub record Done (G : ℕ → List ℕ → Pat → Type 0) (S : ℕ → ℕ → Type 0) (k : ℕ) (s : List ℕ) (at n st dp : ℕ) : Type 0 where
+pub record Done (G : ℕ → List ℕ → Pat → Type 0) (S : ℕ → ℕ → Type 0) (k : ℕ) (s : List ℕ) (at n : ℕ) (a : Pat) : Type 0 where
   pub past : at < n
   pub within : n ≤ length s
-  pub tree : Pat
-  pub deep : dp ≡ nestingOf tree
-  pub shallow : at + dp ≤ n
-  pub derives : G k (slice at n s) tree
-  pub counts : st ≡ stepsOf tree
-  pub few : at + st ≤ n
+  pub derives : G k (slice at n s) a
+  pub few : at + stepsOf a ≤ n
+  pub shallow : at + nestingOf a ≤ n
   pub stops : n < length s → S k (getD s n 0)
 
 pub record Stuck (G : ℕ → List ℕ → Pat → Type 0) (k : ℕ) (s : List ℕ) (at p : ℕ) : Type 0 where
@@ -37,25 +35,22 @@ pub record Stuck (G : ℕ → List ℕ → Pat → Type 0) (k : ℕ) (s : List �
   pub short : (d : Todo) → done (run k (wants d) (slice at p s)) ≡ false
   pub some : at < length s → starts k (getD s at 0) ≡ true → at < p
 
-pub record Opened (k : ℕ) (s : List ℕ) (at n c st : ℕ) : Type 0 where
+pub record Opened (k : ℕ) (s : List ℕ) (at n c : ℕ) (wrap : Pat → Pat) : Type 0 where
   pub past : at < n
   pub within : n ≤ length s
   pub bracket : Bracket
-  pub wrap : Pat → Pat
   pub closes : c ≡ closing bracket
   pub makes : {w : List ℕ} {a : Pat} → Pattern k w a → Atom k (slice at n s ++ (w ++ closing bracket ∷ [])) (wrap a)
   pub opens : (d : Todo) → run k (wants d) (slice at n s) ≡ wants (opened d bracket wrap)
-  pub counts : (a : Pat) → stepsOf (wrap a) ≡ st + stepsOf a
+  pub few : (a : Pat) → at + stepsOf (wrap a) ≤ n + 1 + stepsOf a
   pub deepens : (a : Pat) → nestingOf (wrap a) ≡ 1 + nestingOf a
-  pub few : at + st ≤ n + 1
 
-pub record PostsDone (s : List ℕ) (at n : ℕ) : Type 0 where
+pub record PostsDone (s : List ℕ) (at n : ℕ) (turn : Pat → Pat) : Type 0 where
   pub past : at ≤ n
   pub within : n ≤ length s
-  pub tree : Pat → Pat
-  pub derives : (a : Pat) → Posts (slice at n s) a (tree a)
-  pub counts : (a : Pat) → stepsOf (tree a) ≡ stepsOf a
-  pub level : (a : Pat) → nestingOf (tree a) ≡ nestingOf a
+  pub derives : (a : Pat) → Posts (slice at n s) a (turn a)
+  pub counts : (a : Pat) → stepsOf (turn a) ≡ stepsOf a
+  pub level : (a : Pat) → nestingOf (turn a) ≡ nestingOf a
   pub stops : n < length s → (eqb (getD s n 0) 42 ≡ false) × (eqb (getD s n 0) 35 ≡ false)
 
 pub record PostsStuck (s : List ℕ) (at p : ℕ) : Type 0 where
@@ -79,11 +74,8 @@ TermStop k c = (eqb c 42 ≡ false) × (eqb c 35 ≡ false) × (starts k c ≡ f
 abbrev pub PatternStop : ℕ → ℕ → Type 0
 PatternStop k c = (eqb c 42 ≡ false) × (eqb c 35 ≡ false) × (starts k c ≡ false) × (eqb c 124 ≡ false)
 
-pub record Marked (s : List ℕ) (at n : ℕ) : Type 0 where
+pub record Marked (s : List ℕ) (at n w : ℕ) : Type 0 where
   pub past : at < n
   pub within : n ≤ length s
-  pub tree : Pat → Pat
-  pub joins : {w : List ℕ} {a b : Pat} → Posts w (tree a) b → Posts (slice at n s ++ w) a b
-  pub counts : (a : Pat) → stepsOf (tree a) ≡ stepsOf a
-  pub level : (a : Pat) → nestingOf (tree a) ≡ nestingOf a
-  pub runs : (k : ℕ) (d : Todo) (a : Pat) → run k (after d a) (slice at n s) ≡ after d (tree a)
+  pub joins : {v : List ℕ} {a b : Pat} → Posts v (charge w a) b → Posts (slice at n s ++ v) a b
+  pub runs : (k : ℕ) (d : Todo) (a : Pat) → run k (after d a) (slice at n s) ≡ after d (charge w a)

@@ -83,41 +83,38 @@ unclosed k o b f fs a c h n =
     rw (h .0, h .1, h .3, ne-eqb c (closing (f .close)) n) (no-start k (more (record { outer = o; before = b; frames = f ∷ fs }) a) c (h .2))
 
 -- the run past what stands
-past-atom : {k : ℕ} {s : List ℕ} {at n st dp : ℕ} {S : ℕ → ℕ → Type 0} → Done Atom S k s at n st dp → (t : ℕ) → n ≤ t → (d : Todo)
+past-atom : {k : ℕ} {s : List ℕ} {at n : ℕ} {b : Pat} {S : ℕ → ℕ → Type 0} → Done Atom S k s at n b → (t : ℕ) → n ≤ t → (d : Todo)
     → (a : Pat) × (run k (wants d) (slice at t s) ≡ run k (after d a) (slice n t s))
-past-atom {k} {s} {at} {n} x t l d = (x .tree, run-join k (wants d) at n t s (omega arith) l ∙ ap (λ (u : St). run k u (slice n t s)) (atom-run (x .derives) d .runs))
+past-atom {k} {s} {at} {n} {b} x t l d = (b, run-join k (wants d) at n t s (omega arith) l ∙ ap (λ (u : St). run k u (slice n t s)) (atom-run (x .derives) d .runs))
 
-past-factor : {k : ℕ} {s : List ℕ} {at n st dp : ℕ} {S : ℕ → ℕ → Type 0} → Done Factor S k s at n st dp → (t : ℕ) → n ≤ t → (d : Todo)
+past-factor : {k : ℕ} {s : List ℕ} {at n : ℕ} {b : Pat} {S : ℕ → ℕ → Type 0} → Done Factor S k s at n b → (t : ℕ) → n ≤ t → (d : Todo)
     → (a : Pat) × (run k (wants d) (slice at t s) ≡ run k (after d a) (slice n t s))
-past-factor {k} {s} {at} {n} x t l d = (x .tree, run-join k (wants d) at n t s (omega arith) l ∙ ap (λ (u : St). run k u (slice n t s)) (factor-run (x .derives) d .runs))
+past-factor {k} {s} {at} {n} {b} x t l d = (b, run-join k (wants d) at n t s (omega arith) l ∙ ap (λ (u : St). run k u (slice n t s)) (factor-run (x .derives) d .runs))
 
-past-term : {k : ℕ} {s : List ℕ} {at n st dp : ℕ} {S : ℕ → ℕ → Type 0} → Done Term S k s at n st dp → (t : ℕ) → n ≤ t → (d : Todo)
+past-term : {k : ℕ} {s : List ℕ} {at n : ℕ} {b : Pat} {S : ℕ → ℕ → Type 0} → Done Term S k s at n b → (t : ℕ) → n ≤ t → (d : Todo)
     → (e : Todo) × (a : Pat) × (run k (wants d) (slice at t s) ≡ run k (after e a) (slice n t s))
 past-term {k} {s} {at} {n} x t l d =
     let r = term-run (x .derives) d in
     (record { outer = d .outer; before = r .before; frames = d .frames }, r .tree, run-join k (wants d) at n t s (omega arith) l ∙ ap (λ (u : St). run k u (slice n t s)) (r .runs))
 
-past-bar : {k : ℕ} {s : List ℕ} {at n st dp : ℕ} {S : ℕ → ℕ → Type 0} → Done Term S k s at n st dp → getD s n 0 ≡ 124 → (t : ℕ) → n < t → t ≤ length s → (d : Todo)
+past-bar : {k : ℕ} {s : List ℕ} {at n : ℕ} {b : Pat} {S : ℕ → ℕ → Type 0} → Done Term S k s at n b → getD s n 0 ≡ 124 → (t : ℕ) → n < t → t ≤ length s → (d : Todo)
     → (e : Todo) × (run k (wants d) (slice at t s) ≡ run k (wants e) (slice (n + 1) t s))
 past-bar {k} {s} {at} {n} x h t l m d =
     let r = past-term x t (omega arith) d in
     (other (r .0) (r .1), r .2 ∙ (ap (run k (after (r .0) (r .1))) (slice-one n t s (omega arith) m) ∙ ap (λ (c : ℕ). run k (follow k (r .0) (r .1) c) (slice (n + 1) t s)) h))
 
-past-open : {k : ℕ} {s : List ℕ} {at i c st : ℕ} (o : Opened k s at i c st) → (t : ℕ) → i ≤ t → (d : Todo)
-    → run k (wants d) (slice at t s) ≡ run k (wants (opened d (o .bracket) (o .wrap))) (slice i t s)
+past-open : {k : ℕ} {s : List ℕ} {at i c : ℕ} {wrap : Pat → Pat} (o : Opened k s at i c wrap) → (t : ℕ) → i ≤ t → (d : Todo)
+    → run k (wants d) (slice at t s) ≡ run k (wants (opened d (o .bracket) wrap)) (slice i t s)
 past-open {k} {s} {at} {i} o t l d = run-join k (wants d) at i t s (omega arith) l ∙ ap (λ (u : St). run k u (slice i t s)) (o .opens d)
 
 module _ {k : ℕ} {s : List ℕ} where
-  pub factor-good : {at n e st dp : ℕ} → Done Atom AtomStop k s at n st dp → PostsDone s n e → Done Factor FactorStop k s at e st dp
-  factor-good {at} {n} {e} {st} {dp} x p = record {
+  pub factor-good : {at n e : ℕ} {a : Pat} {turn : Pat → Pat} → Done Atom AtomStop k s at n a → PostsDone s n e turn → Done Factor FactorStop k s at e (turn a)
+  factor-good {at} {n} {e} {a} {turn} x p = record {
     past = omega arith;
     within = p .within;
-    tree = p .tree (x .tree);
-    derives = subst (λ (w : List ℕ). Factor k w (p .tree (x .tree))) (slice-join at n e s (omega arith) (p .past)) (with (x .derives) (p .derives (x .tree)));
-    deep = x .deep ∙ sym (p .level (x .tree));
-    shallow = omega arith;
-    counts = x .counts ∙ sym (p .counts (x .tree));
-    few = omega arith;
+    derives = subst (λ (w : List ℕ). Factor k w (turn a)) (slice-join at n e s (omega arith) (p .past)) (with (x .derives) (p .derives a));
+    few = omega (arith, p .counts a);
+    shallow = omega (arith, p .level a);
     stops = p .stops;
   }
 
@@ -133,41 +130,28 @@ module _ {k : ℕ} {s : List ℕ} where
     some = x .some;
   }
 
-  pub factor-bad-2 : {at n st dp p : ℕ} → Done Atom AtomStop k s at n st dp → PostsStuck s n p → Stuck Factor k s at p
-  factor-bad-2 {at} {n} {st} {dp} {p} x q = record {
+  pub factor-bad-2 : {at n p : ℕ} {a : Pat} → Done Atom AtomStop k s at n a → PostsStuck s n p → Stuck Factor k s at p
+  factor-bad-2 {at} {n} {p} {a} x q = record {
     from = omega arith;
     within = q .within;
     rest = q .rest;
-    tree = q .tree (x .tree);
-    viable = subst (λ (w : List ℕ). Factor k w (q .tree (x .tree))) (join-rest at n p s (q .rest) (omega arith) (q .from)) (with (x .derives) (q .viable (x .tree)));
+    tree = q .tree a;
+    viable = subst (λ (w : List ℕ). Factor k w (q .tree a)) (join-rest at n p s (q .rest) (omega arith) (q .from)) (with (x .derives) (q .viable a));
     dies = λ l d. let r = past-atom x (p + 1) (omega arith) d in r .1 ∙ q .dies l k d (r .0);
     short = λ d. let r = past-atom x p (q .from) d in ap done (r .1) ∙ q .short k d (r .0);
     some = λ _ _. omega arith;
   }
 
-  pub term-good : {at n st dp : ℕ} → Done Factor FactorStop k s at n st dp → (n < length s → starts k (getD s n 0) ≡ false) → Done Term TermStop k s at n st dp
-  term-good f h = record {
-    past = f .past;
-    within = f .within;
-    tree = f .tree;
-    derives = last (f .derives);
-    counts = f .counts;
-    few = f .few;
-    deep = f .deep;
-    shallow = f .shallow;
-    stops = λ l. (f .stops l .0, f .stops l .1, h l);
-  }
+  pub term-good : {at n : ℕ} {a : Pat} → Done Factor FactorStop k s at n a → (n < length s → starts k (getD s n 0) ≡ false) → Done Term TermStop k s at n a
+  term-good f h = record { past = f .past; within = f .within; derives = last (f .derives); few = f .few; shallow = f .shallow; stops = λ l. (f .stops l .0, f .stops l .1, h l) }
 
-  pub term-good-2 : {at n e st m dp dq : ℕ} → Done Factor FactorStop k s at n st dp → Done Term TermStop k s n e m dq → Done Term TermStop k s at e (st + m) (max dp dq)
+  pub term-good-2 : {at n e : ℕ} {a b : Pat} → Done Factor FactorStop k s at n a → Done Term TermStop k s n e b → Done Term TermStop k s at e (cat a b)
   unfolding stepsOf nestingOf
-  term-good-2 {at} {n} {e} {st} {m} {dp} {dq} f t = record {
+  term-good-2 {at} {n} {e} {a} {b} f t = record {
     past = omega arith;
     within = t .within;
-    tree = cat (f .tree) (t .tree);
-    derives = subst (λ (w : List ℕ). Term k w (cat (f .tree) (t .tree))) (slice-join at n e s (omega arith) (omega arith)) (thence (f .derives) (t .derives));
-    counts = omega arith;
+    derives = subst (λ (w : List ℕ). Term k w (cat a b)) (slice-join at n e s (omega arith) (omega arith)) (thence (f .derives) (t .derives));
     few = omega arith;
-    deep = rw (f .deep, t .deep);
     shallow = omega arith;
     stops = t .stops;
   }
@@ -175,43 +159,30 @@ module _ {k : ℕ} {s : List ℕ} where
   pub term-bad : {at p : ℕ} → Stuck Factor k s at p → Stuck Term k s at p
   term-bad x = record { from = x .from; within = x .within; rest = x .rest; tree = x .tree; viable = last (x .viable); dies = x .dies; short = x .short; some = x .some }
 
-  pub term-bad-2 : {at n st dp p : ℕ} → Done Factor FactorStop k s at n st dp → n < length s → starts k (getD s n 0) ≡ true → Stuck Term k s n p → Stuck Term k s at p
-  term-bad-2 {at} {n} {st} {dp} {p} f l h t = record {
+  pub term-bad-2 : {at n p : ℕ} {a : Pat} → Done Factor FactorStop k s at n a → n < length s → starts k (getD s n 0) ≡ true → Stuck Term k s n p → Stuck Term k s at p
+  term-bad-2 {at} {n} {p} {a} f l h t = record {
     from = omega arith;
     within = t .within;
     rest = t .rest;
-    tree = cat (f .tree) (t .tree);
-    viable = subst (λ (w : List ℕ). Term k w (cat (f .tree) (t .tree))) (join-rest at n p s (t .rest) (omega arith) (t .from)) (thence (f .derives) (t .viable));
+    tree = cat a (t .tree);
+    viable = subst (λ (w : List ℕ). Term k w (cat a (t .tree))) (join-rest at n p s (t .rest) (omega arith) (t .from)) (thence (f .derives) (t .viable));
     dies = λ m d. let r = past-factor f (p + 1) (omega arith) d in r .1 ∙ (starts-on k s n (p + 1) d (r .0) h (omega arith) (omega arith) ∙ t .dies m (more d (r .0)));
     short = λ d. let q = t .some l h in let r = past-factor f p (t .from) d in ap done (r .1 ∙ starts-on k s n p d (r .0) h q (t .within)) ∙ t .short (more d (r .0));
     some = λ _ _. omega arith;
   }
 
-  pub pattern-good : {at n st dp : ℕ} → Done Term TermStop k s at n st dp → (n < length s → eqb (getD s n 0) 124 ≡ false) → Done Pattern PatternStop k s at n st dp
-  pattern-good f h = record {
-    past = f .past;
-    within = f .within;
-    tree = f .tree;
-    derives = lone (f .derives);
-    counts = f .counts;
-    few = f .few;
-    deep = f .deep;
-    shallow = f .shallow;
-    stops = λ l. (f .stops l .0, f .stops l .1, f .stops l .2, h l);
-  }
+  pub pattern-good : {at n : ℕ} {a : Pat} → Done Term TermStop k s at n a → (n < length s → eqb (getD s n 0) 124 ≡ false) → Done Pattern PatternStop k s at n a
+  pattern-good f h = record { past = f .past; within = f .within; derives = lone (f .derives); few = f .few; shallow = f .shallow; stops = λ l. (f .stops l .0, f .stops l .1, f .stops l .2, h l) }
 
-  pub pattern-good-2 : {at n e st m dp dq : ℕ} → Done Term TermStop k s at n st dp → n < length s → getD s n 0 ≡ 124 → Done Pattern PatternStop k s (n + 1) e m dq → Done Pattern PatternStop k s at e (st + m) (max dp dq)
+  pub pattern-good-2 : {at n e : ℕ} {a b : Pat} → Done Term TermStop k s at n a → n < length s → getD s n 0 ≡ 124 → Done Pattern PatternStop k s (n + 1) e b → Done Pattern PatternStop k s at e (alt a b)
   unfolding stepsOf nestingOf
-  pattern-good-2 {at} {n} {e} {st} {m} {dp} {dq} f l h t = record {
+  pattern-good-2 {at} {n} {e} {a} {b} f l h t = record {
     past = omega arith;
     within = t .within;
-    tree = alt (f .tree) (t .tree);
-    derives = subst (λ (w : List ℕ). Pattern k w (alt (f .tree) (t .tree)))
+    derives = subst (λ (w : List ℕ). Pattern k w (alt a b))
         (ap (λ (w : List ℕ). slice at n s ++ 124 ∷ w) (sym (append-nil (slice (n + 1) e s))) ∙ (bar-join s at n e [] (omega arith) l h (omega arith) (t .within) ∙ append-nil (slice at e s)))
         (either (f .derives) (t .derives));
-    counts = omega arith;
     few = omega arith;
-    deep = rw (f .deep, t .deep);
     shallow = omega arith;
     stops = t .stops;
   }
@@ -219,65 +190,62 @@ module _ {k : ℕ} {s : List ℕ} where
   pub pattern-bad : {at p : ℕ} → Stuck Term k s at p → Stuck Pattern k s at p
   pattern-bad x = record { from = x .from; within = x .within; rest = x .rest; tree = x .tree; viable = lone (x .viable); dies = x .dies; short = x .short; some = x .some }
 
-  pub pattern-bad-2 : {at n st dp p : ℕ} → Done Term TermStop k s at n st dp → n < length s → getD s n 0 ≡ 124 → Stuck Pattern k s (n + 1) p → Stuck Pattern k s at p
-  pattern-bad-2 {at} {n} {st} {dp} {p} f l h t = record {
+  pub pattern-bad-2 : {at n p : ℕ} {a : Pat} → Done Term TermStop k s at n a → n < length s → getD s n 0 ≡ 124 → Stuck Pattern k s (n + 1) p → Stuck Pattern k s at p
+  pattern-bad-2 {at} {n} {p} {a} f l h t = record {
     from = omega arith;
     within = t .within;
     rest = t .rest;
-    tree = alt (f .tree) (t .tree);
-    viable = subst (λ (w : List ℕ). Pattern k w (alt (f .tree) (t .tree))) (bar-join s at n p (t .rest) (omega arith) l h (t .from) (t .within)) (either (f .derives) (t .viable));
+    tree = alt a (t .tree);
+    viable = subst (λ (w : List ℕ). Pattern k w (alt a (t .tree))) (bar-join s at n p (t .rest) (omega arith) l h (t .from) (t .within)) (either (f .derives) (t .viable));
     dies = λ m d. let r = past-bar f h (p + 1) (omega arith) (omega arith) d in r .1 ∙ t .dies m (r .0);
     short = λ d. let r = past-bar f h p (omega arith) (t .within) d in ap done (r .1) ∙ t .short (r .0);
     some = λ _ _. omega arith;
   }
 
-  pub atom-good : {at i n c st m dp : ℕ} → Opened k s at i c st → Done Pattern PatternStop k s i n m dp → n < length s → getD s n 0 ≡ c → Done Atom AtomStop k s at (n + 1) (st + m) (1 + dp)
-  atom-good {at} {i} {n} {c} {st} {m} {dp} o p l h = record {
+  pub atom-good : {at i n c : ℕ} {wrap : Pat → Pat} {a : Pat} → Opened k s at i c wrap → Done Pattern PatternStop k s i n a → n < length s → getD s n 0 ≡ c → Done Atom AtomStop k s at (n + 1) (wrap a)
+  atom-good {at} {i} {n} {c} {wrap} {a} o p l h = record {
     past = omega arith;
     within = omega arith;
-    tree = o .wrap (p .tree);
-    derives = subst (λ (w : List ℕ). Atom k w (o .wrap (p .tree)))
+    derives = subst (λ (w : List ℕ). Atom k w (wrap a))
         (ap (λ (x : ℕ). slice at i s ++ (slice i n s ++ x ∷ [])) (sym (o .closes) ∙ sym h)
         ∙ (ap (λ (w : List ℕ). slice at i s ++ (slice i n s ++ w)) (sym (slice-byte n s l))
         ∙ (ap (λ (w : List ℕ). slice at i s ++ w) (slice-join i n (n + 1) s (omega arith) (omega arith))
         ∙ slice-join at i (n + 1) s (omega arith) (omega arith))))
         (o .makes (p .derives));
-    counts = ap (λ (x : ℕ). st + x) (p .counts) ∙ sym (o .counts (p .tree));
-    few = omega arith;
-    deep = ap (λ (x : ℕ). 1 + x) (p .deep) ∙ sym (o .deepens (p .tree));
-    shallow = omega arith;
+    few = omega (arith, o .few a);
+    shallow = omega (arith, o .deepens a);
     stops = λ _. tt;
   }
 
-  pub atom-bad : {at i c st p : ℕ} → Opened k s at i c st → Stuck Pattern k s i p → Stuck Atom k s at p
-  atom-bad {at} {i} {c} {st} {p} o q = record {
+  pub atom-bad : {at i c p : ℕ} {wrap : Pat → Pat} → Opened k s at i c wrap → Stuck Pattern k s i p → Stuck Atom k s at p
+  atom-bad {at} {i} {c} {p} {wrap} o q = record {
     from = omega arith;
     within = q .within;
     rest = q .rest ++ closing (o .bracket) ∷ [];
-    tree = o .wrap (q .tree);
-    viable = subst (λ (w : List ℕ). Atom k w (o .wrap (q .tree)))
+    tree = wrap (q .tree);
+    viable = subst (λ (w : List ℕ). Atom k w (wrap (q .tree)))
         (ap (λ (w : List ℕ). slice at i s ++ w) (append-assoc (slice i p s) (q .rest) (closing (o .bracket) ∷ [])) ∙ join-rest at i p s (q .rest ++ closing (o .bracket) ∷ []) (omega arith) (q .from))
         (o .makes (q .viable));
-    dies = λ m d. past-open o (p + 1) (omega arith) d ∙ q .dies m (opened d (o .bracket) (o .wrap));
-    short = λ d. ap done (past-open o p (q .from) d) ∙ q .short (opened d (o .bracket) (o .wrap));
+    dies = λ m d. past-open o (p + 1) (omega arith) d ∙ q .dies m (opened d (o .bracket) wrap);
+    short = λ d. ap done (past-open o p (q .from) d) ∙ q .short (opened d (o .bracket) wrap);
     some = λ _ _. omega arith;
   }
 
-  pub atom-bad-2 : {at i n c st m dp : ℕ} → Opened k s at i c st → Done Pattern PatternStop k s i n m dp → (n < length s → getD s n 0 ≡ c → ⊥) → Stuck Atom k s at n
-  atom-bad-2 {at} {i} {n} {c} {st} {m} {dp} o p h = record {
+  pub atom-bad-2 : {at i n c : ℕ} {wrap : Pat → Pat} {a : Pat} → Opened k s at i c wrap → Done Pattern PatternStop k s i n a → (n < length s → getD s n 0 ≡ c → ⊥) → Stuck Atom k s at n
+  atom-bad-2 {at} {i} {n} {c} {wrap} {a} o p h = record {
     from = omega arith;
     within = p .within;
     rest = closing (o .bracket) ∷ [];
-    tree = o .wrap (p .tree);
-    viable = subst (λ (w : List ℕ). Atom k w (o .wrap (p .tree))) (join-rest at i n s (closing (o .bracket) ∷ []) (omega arith) (omega arith)) (o .makes (p .derives));
+    tree = wrap a;
+    viable = subst (λ (w : List ℕ). Atom k w (wrap a)) (join-rest at i n s (closing (o .bracket) ∷ []) (omega arith) (omega arith)) (o .makes (p .derives));
     dies = λ l d.
-        let r = pattern-run (p .derives) (λ x. x) (opened d (o .bracket) (o .wrap) .frames) in
+        let r = pattern-run (p .derives) (λ x. x) (opened d (o .bracket) wrap .frames) in
         past-open o (n + 1) (omega arith) d
-        ∙ (run-join k (wants (opened d (o .bracket) (o .wrap))) i n (n + 1) s (omega arith) (omega arith)
+        ∙ (run-join k (wants (opened d (o .bracket) wrap)) i n (n + 1) s (omega arith) (omega arith)
         ∙ (ap (λ (u : St). run k u (slice n (n + 1) s)) (r .runs)
-        ∙ (ap (run k (after (record { outer = r .outer; before = r .before; frames = opened d (o .bracket) (o .wrap) .frames }) (r .tree))) (slice-byte n s l)
+        ∙ (ap (run k (after (record { outer = r .outer; before = r .before; frames = opened d (o .bracket) wrap .frames }) (r .tree))) (slice-byte n s l)
         ∙ unclosed k (r .outer) (r .before) _ (d .frames) (r .tree) (getD s n 0) (p .stops l) (λ e. h l (e ∙ sym (o .closes))))));
-    short = λ d. ap done (past-open o n (omega arith) d ∙ pattern-run (p .derives) (λ x. x) (opened d (o .bracket) (o .wrap) .frames) .runs);
+    short = λ d. ap done (past-open o n (omega arith) d ∙ pattern-run (p .derives) (λ x. x) (opened d (o .bracket) wrap .frames) .runs);
     some = λ _ _. omega arith;
   }
 
@@ -315,10 +283,10 @@ refused {k} {s} {p} x =
     (λ e. ap (λ (w : List ℕ). done (run k begun w)) (sym (take-length s) ∙ ap (λ (n : ℕ). take n s) (sym e)) ∙ x .short (fresh (λ y. y) []))
 
 -- a pattern, and a byte after it
-pub refused-after : {k : ℕ} {s : List ℕ} {n st dp : ℕ} → Done Pattern PatternStop k s 0 n st dp → n < length s → Refused k s n
-refused-after {k} {s} {n} x l =
+pub refused-after : {k : ℕ} {s : List ℕ} {n : ℕ} {a : Pat} → Done Pattern PatternStop k s 0 n a → n < length s → Refused k s n
+refused-after {k} {s} {n} {a = b} x l =
     let r = pattern-run (x .derives) (λ y. y) [] in
-    refuses k s n (x .within) (record { rest = []; tree = x .tree; whole = subst (λ (w : List ℕ). Pattern k w (x .tree)) (sym (append-nil (take n s))) (x .derives) })
+    refuses k s n (x .within) (record { rest = []; tree = b; whole = subst (λ (w : List ℕ). Pattern k w b) (sym (append-nil (take n s))) (x .derives) })
     (λ _. run-join k begun 0 n (n + 1) s (omega arith) (omega arith)
     ∙ (ap (λ (u : St). run k u (slice n (n + 1) s)) (r .runs)
     ∙ (ap (run k (after (record { outer = r .outer; before = r .before; frames = [] }) (r .tree))) (slice-byte n s l)
@@ -328,5 +296,5 @@ refused-after {k} {s} {n} x l =
     stopped : (o b : Pat → Pat) (a : Pat) → PatternStop k (getD s n 0) → follow k (record { outer = o; before = b; frames = [] }) a (getD s n 0) ≡ dead
     stopped o b a h = rw (h .0, h .1, h .3) (no-start k (more (record { outer = o; before = b; frames = [] }) a) (getD s n 0) (h .2))
 
-pub accepted : {k : ℕ} {s : List ℕ} {n st dp : ℕ} → Done Pattern PatternStop k s 0 n st dp → length s ≤ n → (a : Pat) × Pattern k s a × (st ≡ stepsOf a) × (dp ≡ nestingOf a)
-accepted {k} {s} {n} x l = (x .tree, subst (λ (w : List ℕ). Pattern k w (x .tree)) (take-all n s l) (x .derives), x .counts, x .deep)
+pub accepted : {k : ℕ} {s : List ℕ} {n : ℕ} {a : Pat} → Done Pattern PatternStop k s 0 n a → length s ≤ n → Pattern k s a
+accepted {k} {s} {n} {a} x l = subst (λ (w : List ℕ). Pattern k w a) (take-all n s l) (x .derives)
