@@ -1,31 +1,20 @@
 -- `Spans::is_set` decides what a set of spans is: its three parts, one after the other. Assumes nothing.
-use mathlib.Core.Path.{_≡_, refl, sym}
-use mathlib.Core.Bool.{Bool, true, false, not, false≢true}
 use borrow.Author.Needs.{needs}
-use Rattle.basics.specs.Decides.{Decides, no-so, decides-as}
-use Rattle.spans.specs.Spans.{SetOfSpans}
+use Rattle.basics.specs.Decides.{no-so, decides-as, refused, kept}
 use Rattle.spans.proofs.Spans.is_set.Statement.{statement}
 use Rattle.spans.proofs.Spans.is_set.Tie as tie
-
-untrue : (b : Bool) → not b ≡ true → b ≡ false
-untrue true e = absurd (false≢true e)
-untrue false e = refl
-
-unfalse : (b : Bool) → not b ≡ false → b ≡ true
-unfalse true e = refl
-unfalse false e = sym e
 
 part-requires : tie.Need-part-requires
 part-requires c κs = search needs
 
 returns : tie.Need-returns
-returns c = no-so (λ p. c .before .part .ensures .not-so (untrue _ (c .if1 .taken)) (p .one))
+returns c = no-so (λ p. refused _ (c .before .part .ensures) (c .if1 .taken) (p .one))
 
 part-requires-2 : tie.Need-part-requires-2
 part-requires-2 c κs = search needs
 
 returns-2 : tie.Need-returns-2
-returns-2 c = no-so (λ p. c .before .part2 .ensures .not-so (untrue _ (c .if2 .taken)) (p .two))
+returns-2 c = no-so (λ p. refused _ (c .before .part2 .ensures) (c .if2 .taken) (p .two))
 
 part-requires-3 : tie.Need-part-requires-3
 part-requires-3 c κs = search needs
@@ -34,8 +23,8 @@ returns-3 : tie.Need-returns-3
 returns-3 c =
     decides-as
       (λ p. record {
-        one = c .before .before .before .before .part .ensures .so (unfalse _ (c .before .before .before .if1 .left));
-        two = c .before .before .part2 .ensures .so (unfalse _ (c .before .if2 .left));
+        one = kept _ (c .before .before .before .before .part .ensures) (c .before .before .before .if1 .left);
+        two = kept _ (c .before .before .part2 .ensures) (c .before .if2 .left);
         three = p
       })
       (λ p. p .three)
