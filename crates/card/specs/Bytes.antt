@@ -1,8 +1,6 @@
 -- METHOD. The form of a card by places in its text, and that this is the form that Form.antt defines.
 --
--- EndsAt l f r            r is the first place from f on where an LF stands, or the end
 -- FirstRight text K       line 1 is right, by places
--- BeginsAt text f key     the key stands from f on
 use mathlib.Core.Path.{_≡_, refl, sym, ap, ap₂, _∙_}
 use native.Mathlib.Numerals.{add-one}
 use mathlib.Core.List.{List, [], _∷_, _++_}
@@ -10,15 +8,10 @@ use Prim.Native.Nat.{ℕ, suc, _+_, _-_, _≤_, _<_}
 use native.Mathlib.Omega.{arith}
 use lib.ListN.{length, getD, take, drop, length-append, take-append-drop, length-take, length-drop}
 use lib.Seq.{drop-cons, slice, getD-drop, getD-take, length-slice, drop-drop, length-take-le, take-suc, drop-append-le, getD-append-seam, getD-append-add}
+use Rattle.lines.specs.Ends.{EndsAt, lf}
 use Rattle.card.specs.declared.Form.{Form}
 use Rattle.card.specs.declared.Form.the-variants.{Right, Wrong}
-use Rattle.card.specs.Form.{lf, varsKey, patternKey, LineOne, LineTwo, IsCard, FormOf, right, wrong-one, wrong-two}
-
-pub record EndsAt (l : List ℕ) (f r : ℕ) : Type 0 where
-  pub from : f ≤ r
-  pub within : r ≤ length l
-  pub none : (i : ℕ) → f ≤ i → i < r → getD l i 0 ≡ lf → ⊥
-  pub here : r < length l → getD l r 0 ≡ lf
+use Rattle.card.specs.Form.{varsKey, patternKey, LineOne, LineTwo, IsCard, FormOf, right, wrong-one, wrong-two}
 
 pub record FirstRight (text : List ℕ) (K : ℕ) : Type 0 where
   pub long : 7 ≤ length text

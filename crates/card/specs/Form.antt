@@ -10,11 +10,9 @@ use mathlib.Core.Path.{_≡_}
 use mathlib.Core.List.{List, [], _∷_, _++_}
 use Prim.Native.Nat.{ℕ, _+_, _≤_, _<_}
 use lib.ListN.{length, getD}
+use Rattle.lines.specs.Ends.{lf}
 use Rattle.card.specs.declared.Form.{Form}
 use Rattle.card.specs.declared.Form.the-variants.{Right, Wrong}
-
-abbrev pub lf : ℕ
-lf = 10
 
 abbrev pub varsKey : List ℕ
 varsKey = 118 ∷ 97 ∷ 114 ∷ 115 ∷ 61 ∷ []

@@ -7,9 +7,10 @@ use mathlib.Core.List.{List, [], _∷_, _++_}
 use Prim.Native.Nat.{ℕ, zero, suc, _+_, _≤_, _<_}
 use native.Mathlib.Omega.{arith}
 use lib.ListN.{length, getD, drop}
+use Rattle.lines.specs.Ends.{lf}
 use Rattle.card.specs.declared.Form.{Form}
 use Rattle.card.specs.declared.Form.the-variants.{Right, Wrong}
-use Rattle.card.specs.Form.{lf, varsKey, patternKey, LineOne, LineTwo, IsCard, FormOf, right, wrong-one, wrong-two}
+use Rattle.card.specs.Form.{varsKey, patternKey, LineOne, LineTwo, IsCard, FormOf, right, wrong-one, wrong-two}
 use Rattle.card.specs.Bytes.{line-first}
 
 -- none of the bytes is LF

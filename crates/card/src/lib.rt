@@ -6,9 +6,8 @@ ghost use Prim.Native.Nat.{_+_, _≤_};
 ghost use lib.ListN.{length, take, drop};
 ghost use Rattle.basics.specs.Decides.{Decides};
 ghost use Rattle.card.specs.Form.{FormOf};
-ghost use Rattle.card.specs.Bytes.{EndsAt, FirstRight};
+ghost use Rattle.card.specs.Bytes.{FirstRight};
 
-pub const LF: u8 = 10;
 
 const VARS: [u8; 5] = [b'v', b'a', b'r', b's', b'='];
 
@@ -45,21 +44,6 @@ fn begins(text: &[u8], at: usize, key: &[u8]) -> bool
     true
 }
 
-// Where the line that `at` stands in ends: its LF, or the end of the text.
-fn line_end(text: &[u8], at: usize) -> usize
-    requires { ⌜ at ≤ length (now text) ⌝ }
-    ensures { λ r. ⌜ EndsAt (now (text .entry)) at r ⌝ }
-{
-    let mut i = at;
-    while i < text.len() {
-        if text[i] == LF {
-            return i;
-        }
-        i += 1;
-    }
-    i
-}
-
 // Line 2, which starts at byte 7: where the pattern ends.
 fn second(text: &[u8], vars: u32) -> Form
     requires { ⌜ FirstRight (now text) vars ⌝ }
@@ -68,7 +52,7 @@ fn second(text: &[u8], vars: u32) -> Form
     if !begins(text, 7, &PATTERN) {
         return Form::Wrong { line: 2 };
     }
-    let to = line_end(text, 15);
+    let to = lines::line_end(text, 15);
     if text.len() <= to {
         return Form::Wrong { line: 2 };
     }
@@ -91,7 +75,7 @@ pub fn form_of(text: &[u8]) -> Form
     if b'9' < d {
         return Form::Wrong { line: 1 };
     }
-    if text[6] != LF {
+    if text[6] != lines::LF {
         return Form::Wrong { line: 1 };
     }
     second(text, wide(d - b'0'))

@@ -1,13 +1,13 @@
--- `card::line_end` finds the LF that ends a line. The invariant: none stands before. Assumes nothing.
+-- `lines::line_end` finds the LF that ends a line. The invariant: none stands before. Assumes nothing.
 use mathlib.Core.Path.{_≡_}
 use Prim.Native.Nat.{ℕ, _+_, _-_, _≤_, _<_}
 use native.Mathlib.Omega.{arith}
 use native.Mathlib.Decide.{ℕ-discrete}
 use borrow.Author.Needs.{needs}
 use lib.ListN.{length, getD}
-use Rattle.card.specs.Bytes.{EndsAt}
-use Rattle.card.proofs.line_end.Statement.{statement}
-use Rattle.card.proofs.line_end.Tie as tie
+use Rattle.lines.specs.Ends.{EndsAt}
+use Rattle.lines.proofs.line_end.Statement.{statement}
+use Rattle.lines.proofs.line_end.Tie as tie
 
 abbrev Inv-loop : tie.InvT-loop
 Inv-loop text at i₀ i = (at ≤ i) × (i ≤ length text) × ((j : ℕ) → at ≤ j → j < i → getD text j 0 ≡ 10 → ⊥)
