@@ -8,7 +8,6 @@ ghost use Rattle.basics.specs.Decides.{Decides};
 ghost use Rattle.card.specs.Form.{FormOf};
 ghost use Rattle.card.specs.Bytes.{FirstRight};
 
-
 const VARS: [u8; 5] = [b'v', b'a', b'r', b's', b'='];
 
 const PATTERN: [u8; 8] = [b'p', b'a', b't', b't', b'e', b'r', b'n', b'='];
