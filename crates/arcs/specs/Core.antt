@@ -152,6 +152,9 @@ text-toll {w = w} {a = a} p =
       | named l m (p → h) ↦ named-toll h
     ] in r .most
 
+pub atom-toll : {k : ℕ} {w : List ℕ} {a : Pat} → Atom k w a → tolls (core a) * 4 ≤ 999 * length w
+atom-toll {w = w} p = omega (arith, text-toll (lone (last (with p none))), length-append w [])
+
 -- in 255 bytes
 pub few-tolls : {k : ℕ} {w : List ℕ} {a : Pat} → Pattern k w a → length w ≤ 255 → tolls (core a) ≤ 63686
 few-tolls p h = omega (arith, text-toll p)
