@@ -1,0 +1,4 @@
+pub mod Layout
+pub mod Gather
+pub mod Words
+pub mod Exact
