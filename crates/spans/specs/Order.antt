@@ -66,12 +66,12 @@ by-numbers a b p q r s t u = λ i. record { s1 = p i; e1 = q i; s2 = r i; e2 = s
 pub digits-same : (a b : Spans) → digits a ≡ digits b → a ≡ b
 digits-same a b e =
     by-numbers a b
-      (digit-same 0 (a .s1) (b .s1) (cc))
-      (digit-same 1 (a .e1) (b .e1) (cc))
-      (digit-same 2 (a .s2) (b .s2) (cc))
-      (digit-same 3 (a .e2) (b .e2) (cc))
-      (digit-same 4 (a .s3) (b .s3) (cc))
-      (digit-same 5 (a .e3) (b .e3) (cc))
+    (digit-same 0 (a .s1) (b .s1) (cc))
+    (digit-same 1 (a .e1) (b .e1) (cc))
+    (digit-same 2 (a .s2) (b .s2) (cc))
+    (digit-same 3 (a .e2) (b .e2) (cc))
+    (digit-same 4 (a .s3) (b .s3) (cc))
+    (digit-same 5 (a .e3) (b .e3) (cc))
 
 pub not-after-refl : (a : Spans) → NotAfter a a
 not-after-refl a = lex-refl (digits a)

@@ -76,7 +76,7 @@ automatonOf ws =
       vars = getD ws 1 0;
       start = λ q. cond (eqb q 0) 0 mark;
       end = λ q. getD ws (3 + q) mark;
-      rows = rowsFrom ws (3 + getD ws 0 0) (getD ws 2 0)
+      rows = rowsFrom ws (3 + getD ws 0 0) (getD ws 2 0);
     }
 
 abbrev pub labelOf : Row → Label

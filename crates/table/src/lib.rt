@@ -17,10 +17,14 @@ pub struct Row {
 }
 
 const MOST_STATES: u32 = 32;
+
 const MOST_VARS: u32 = 3;
+
 const MOST_ROWS: u32 = 1024;
+
 const MOST_WEIGHT: u32 = 1000000;
-const NO_END: u32 = 4294967295;
+
+const NO_END: u32 = weight::Weight::MARK.number;
 
 pub fn row_at(t: &[u32], at: usize) -> Row
     requires { ⌜ at + 5 ≤ length (now t) ⌝ }

@@ -4,3 +4,4 @@ pub mod Sums
 pub mod Tropical
 pub mod Least
 pub mod Totals
+pub mod One

@@ -59,12 +59,12 @@ module _ (S : Semi) {C R : Type 0} (step : C → R → Option C) (price : C → 
 
 -- What solves the equation of the weight to go is the weight to go: for configurations with a number that falls by one at each step.
 module _ (S : Semi) {C R : Type 0} (step : C → R → Option C) (price : C → R → S .W) (stop : C → S .W) (μ : C → ℕ) (Fine : R → Type 0) (Good : C → Type 0)
-  (falls : (c : C) (r : R) (d : C) → step c r ≡ some d → μ c ≡ suc (μ d))
-  (keeps : (c : C) (r : R) (d : C) → Good c → Fine r → step c r ≡ some d → Good d)
-  (normal : (c : C) → S .plus (S .zero) (stop c) ≡ stop c)
-  (early : (c : C) (k : ℕ) → μ c ≡ suc k → stop c ≡ S .zero)
-  (rs : List R) (fine : All Fine rs) (F : C → S .W)
-  (solves : (c : C) → Good c → F c ≡ S .plus (stop c) (sum S (λ r. after S step price stop c r F (step c r)) rs)) where
+    (falls : (c : C) (r : R) (d : C) → step c r ≡ some d → μ c ≡ suc (μ d))
+    (keeps : (c : C) (r : R) (d : C) → Good c → Fine r → step c r ≡ some d → Good d)
+    (normal : (c : C) → S .plus (S .zero) (stop c) ≡ stop c)
+    (early : (c : C) (k : ℕ) → μ c ≡ suc k → stop c ≡ S .zero)
+    (rs : List R) (fine : All Fine rs) (F : C → S .W)
+    (solves : (c : C) → Good c → F c ≡ S .plus (stop c) (sum S (λ r. after S step price stop c r F (step c r)) rs)) where
   none-left : (c : C) (r : R) → μ c ≡ zero → (o : Option C) → step c r ≡ o → after S step price stop c r F o ≡ S .zero
   unfolding after
   none-left c r z none e = refl

@@ -79,7 +79,7 @@ module _ (cap : ℕ) where
         times-assoc = joint-assoc;
         times-zero = joint-cap;
         times-plus = joint-lighter;
-        one-times = zero-joint
+        one-times = zero-joint;
       }
 
   pub sum-cap : {A : Type 0} (f : A → ℕ) (xs : List A) → sum least f xs ≤ cap

@@ -10,6 +10,7 @@ pub struct Weight {
 impl Weight {
     // No run.
     pub const MARK: Weight = Weight { number: 4294967295 };
+
     pub const ZERO: Weight = Weight { number: 0 };
 
     pub fn lighter(self, other: Weight) -> Weight
@@ -17,7 +18,11 @@ impl Weight {
     {
         let a = self.number;
         let b = other.number;
-        if a < b { Weight { number: a } } else { Weight { number: b } }
+        if a < b {
+            Weight { number: a }
+        } else {
+            Weight { number: b }
+        }
     }
 
     // The mark, where the sum would be that or more.
@@ -26,6 +31,10 @@ impl Weight {
     {
         let a = self.number;
         let b = other.number;
-        if 4294967295 - a < b { Weight::MARK } else { Weight { number: a + b } }
+        if Weight::MARK.number - a < b {
+            Weight::MARK
+        } else {
+            Weight { number: a + b }
+        }
     }
 }

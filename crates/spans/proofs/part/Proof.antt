@@ -17,7 +17,7 @@ returns-2 : tie.Need-returns-2
 returns-2 c =
     record {
       so = λ t. record { used = λ h. absurd (omega arith); unused = λ h. (c .if2 .left, eqb-true _ _ t) };
-      not-so = λ t p. eqb-false _ _ t (p .unused (c .before .if1 .taken) .1)
+      not-so = λ t p. eqb-false _ _ t (p .unused (c .before .if1 .taken) .1);
     }
 
 returns-3 : tie.Need-returns-3
@@ -36,7 +36,7 @@ returns-5 : tie.Need-returns-5
 returns-5 c =
     record {
       so = λ t. record { used = λ h. (c .before .before .if3 .left, c .before .if4 .left, omega (arith, leb-true (c .wide .result) (c .before .before .before .before .args .n) t, c .wide .ensures)); unused = λ h. absurd (omega arith) };
-      not-so = λ t p. omega (arith, leb-false (c .wide .result) (c .before .before .before .before .args .n) t, c .wide .ensures, p .used (c .before .before .before .if1 .left) .2)
+      not-so = λ t p. omega (arith, leb-false (c .wide .result) (c .before .before .before .before .args .n) t, c .wide .ensures, p .used (c .before .before .before .if1 .left) .2);
     }
 
 pub part-spec : {M : Type 1} → statement M

@@ -31,7 +31,7 @@ returns-2 c =
 words-of-requires : tie.Need-words-of-requires
 words-of-requires c κs =
     let h = kept (c .before .right-header .result) (c .before .right-header .ensures) (c .if2 .left) in
-    (h .states, h .rows)
+    (omega (arith, h .states), omega (arith, h .rows))
 
 returns-3 : tie.Need-returns-3
 returns-3 c = no-so (λ p. omega (arith, p .long))
@@ -57,18 +57,18 @@ returns-5 : tie.Need-returns-5
 returns-5 c =
     let h = kept (c .before .before .before .before .before .before .right-header .result) (c .before .before .before .before .before .before .right-header .ensures) (c .before .before .before .before .before .if2 .left) in
     decides-as
-      (λ p. record {
-        header = omega arith;
-        some-state = h .some;
-        states = h .states;
-        vars = h .vars;
-        rows = h .rows;
-        long = omega arith;
-        ends = kept (c .before .before .right-ends .result) (c .before .before .right-ends .ensures) (c .before .if4 .left);
-        right = p
-      })
-      (λ p. p .right)
-      (c .right-rows .ensures)
+    (λ p. record {
+      header = omega arith;
+      some-state = h .some;
+      states = h .states;
+      vars = h .vars;
+      rows = h .rows;
+      long = omega arith;
+      ends = kept (c .before .before .right-ends .result) (c .before .before .right-ends .ensures) (c .before .if4 .left);
+      right = p;
+    })
+    (λ p. p .right)
+    (c .right-rows .ensures)
 
 pub is-right-spec : {M : Type 1} → statement M
 is-right-spec =

@@ -11,9 +11,9 @@ returns c = no-so (λ p. omega (arith, p .small))
 returns-2 : tie.Need-returns-2
 returns-2 c =
     decides-as
-      (λ p. record { small = c .if1 .left; order = p })
-      (λ p. p .order)
-      (leb-so (c .before .args .argument / 256) (c .before .args .argument % 256))
+    (λ p. record { small = c .if1 .left; order = p })
+    (λ p. p .order)
+    (leb-so (c .before .args .argument / 256) (c .before .args .argument % 256))
 
 pub right-bytes-spec : {M : Type 1} → statement M
 right-bytes-spec = tie.close (tie.spec returns returns-2)

@@ -16,9 +16,9 @@ returns-3 c = no-so (λ p. omega (arith, p .vars))
 returns-4 : tie.Need-returns-4
 returns-4 c =
     decides-as
-      (λ p. record { some = omega arith; states = omega arith; vars = omega arith; rows = p })
-      (λ p. p .rows)
-      (leb-so (c .before .before .before .args .n) 1024)
+    (λ p. record { some = omega arith; states = omega arith; vars = omega arith; rows = p })
+    (λ p. p .rows)
+    (leb-so (c .before .before .before .args .n) 1024)
 
 pub right-header-spec : {M : Type 1} → statement M
 right-header-spec = tie.close (tie.spec returns returns-2 returns-3 returns-4)

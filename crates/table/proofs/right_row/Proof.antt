@@ -20,9 +20,9 @@ right-label-requires c κs = search needs
 returns-4 : tie.Need-returns-4
 returns-4 c =
     decides-as
-      (λ p. record { leaves = c .before .before .before .before .before .if1 .left; leads = c .before .before .before .if2 .left; label = p; light = c .before .if3 .left })
-      (λ p. p .label)
-      (c .right-label .ensures)
+    (λ p. record { leaves = c .before .before .before .before .before .if1 .left; leads = c .before .before .before .if2 .left; label = p; light = c .before .if3 .left })
+    (λ p. p .label)
+    (c .right-label .ensures)
 
 pub right-row-spec : {M : Type 1} → statement M
 right-row-spec = tie.close (tie.spec returns returns-2 returns-3 right-label-requires returns-4)

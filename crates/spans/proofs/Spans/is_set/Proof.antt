@@ -22,13 +22,13 @@ part-requires-3 c κs = search needs
 returns-3 : tie.Need-returns-3
 returns-3 c =
     decides-as
-      (λ p. record {
-        one = kept _ (c .before .before .before .before .part .ensures) (c .before .before .before .if1 .left);
-        two = kept _ (c .before .before .part2 .ensures) (c .before .if2 .left);
-        three = p
-      })
-      (λ p. p .three)
-      (c .part3 .ensures)
+    (λ p. record {
+      one = kept _ (c .before .before .before .before .part .ensures) (c .before .before .before .if1 .left);
+      two = kept _ (c .before .before .part2 .ensures) (c .before .if2 .left);
+      three = p;
+    })
+    (λ p. p .three)
+    (c .part3 .ensures)
 
 pub is-set-spec : {M : Type 1} → statement M
 is-set-spec =

@@ -1,3 +1,4 @@
+-- `Weight::lighter` is the lighter of two weights. Assumes nothing.
 use native.Mathlib.Omega.{arith}
 use Rattle.weight.specs.Weight.{lighterTo}
 use Rattle.weight.proofs.Weight.lighter.Statement.{statement}
