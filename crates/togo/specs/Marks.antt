@@ -38,7 +38,7 @@ rule : ℕ → ℕ → ℕ → Bool
 rule u j m =
     not (ltb (moveOf u j) 27)
     || (hadMarker j (moveOf u j)
-      && ((not (hadMarker m u) || (not (eqb j m) && hadMarker m (moveOf u j))) && (hadMarker m u || (eqb j m || not (hadMarker m (moveOf u j))))))
+    && ((not (hadMarker m u) || (not (eqb j m) && hadMarker m (moveOf u j))) && (hadMarker m u || (eqb j m || not (hadMarker m (moveOf u j))))))
 
 ruled : (u j m : ℕ) → u < 27 → j < 6 → m < 6 → rule u j m ≡ true
 unfolding rule moveOf
@@ -94,13 +94,16 @@ module _ (allow : ℕ → ℕ → Bool) where
       fresh : (b : Bool) → hadMarker (markerOf l) u ≡ b → b ≡ false
       fresh true o = absurd (false≢true (sym (still u (markerOf l) (markerOf l) hu j j h o .0) ∙ eq-eqb (markerOf l) (markerOf l) refl))
       fresh false o = refl
+
       own : allow (markerOf l) p ≡ true
       own = rw (ne-eqb _ _ k, eq-eqb (markerOf l) (markerOf l) refl) at (f (markerOf l) j (fresh (hadMarker (markerOf l) u) refl))
+
       others : (m : ℕ) → m < 6 → hadMarker m (moveOf u (markerOf l)) ≡ false → allow m (place m p ls) ≡ true
       others m hm o = rw (ne-eqb _ _ k, ne-eqb _ _ other) at (f m hm (before (hadMarker m u) refl))
         where
           other : markerOf l ≡ m → ⊥
           other q = false≢true (sym o ∙ subst (λ (x : ℕ). hadMarker x (moveOf u (markerOf l)) ≡ true) q (taken u (markerOf l) hu j h))
+
           before : (b : Bool) → hadMarker m u ≡ b → hadMarker m u ≡ false
           before true g = absurd (false≢true (sym o ∙ still u (markerOf l) m hu j hm h g .1))
           before false g = g

@@ -93,7 +93,7 @@ module _ (S : Semi) where
   none-set true x = refl
   none-set false x = refl
 
-  ending-stops : (end : ℕ → S .W) (c : Config) → ending S end c ≡ cond (eqb (c .setting) 26) (stops S end (c .spot)) (S .zero)
+  pub ending-stops : (end : ℕ → S .W) (c : Config) → ending S end c ≡ cond (eqb (c .setting) 26) (stops S end (c .spot)) (S .zero)
   unfolding ending stops
   ending-stops end c = go (c .spot .rest)
     where
