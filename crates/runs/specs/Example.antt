@@ -39,6 +39,7 @@ loop-right =
     ends zero h = inl (omega arith)
     ends (suc zero) h = inl (omega arith)
     ends (suc (suc q)) h = absurd (omega arith)
+
     right : (i : ℕ) → i < 2 → RightRow 2 0 (rowAt loop (3 + 2 + 5 * i))
     right zero h = record { leaves = omega arith; leads = omega arith; label = reads-a; light = omega arith }
     right (suc zero) h = record { leaves = omega arith; leads = omega arith; label = reads-a; light = omega arith }
@@ -54,6 +55,7 @@ span-right =
     ends (suc (suc zero)) h = inr refl
     ends (suc (suc (suc zero))) h = inl (omega arith)
     ends (suc (suc (suc (suc q)))) h = absurd (omega arith)
+
     right : (i : ℕ) → i < 5 → RightRow 4 1 (rowAt span (3 + 4 + 5 * i))
     right zero h = record { leaves = omega arith; leads = omega arith; label = opens {arg = 1} (omega arith) (omega arith); light = omega arith }
     right (suc zero) h = record { leaves = omega arith; leads = omega arith; label = reads-a; light = omega arith }

@@ -9,16 +9,15 @@ use mathlib.Core.List.{List, [], _∷_, map}
 use Prim.Native.Nat.{ℕ, zero, suc, _+_, _*_, _≤_, _<_, min}
 use native.Mathlib.Omega.{arith}
 use native.Mathlib.Decide.{ℕ-discrete}
-use lib.Dec.{eqb}
 use lib.ListN.{length, getD, length-map}
-use borrow.Author.Tests.{eq-eqb, ne-eqb, eqb-true}
-use Rattle.basics.specs.Every.{and-true}
+use borrow.Author.Tests.{eq-eqb, ne-eqb}
 use Rattle.basics.specs.Lists.{below, lists, All}
 use Rattle.basics.specs.Members.{In, first, later, AllIn, all-in, in-map, map-in, in-pairs, pairs-in, in-below, below-in, in-lists, lists-in}
 use Rattle.weight.specs.Weight.{mark, jointTo, Least}
 use Rattle.weight.specs.Tropical.{tropical, sum-cap, sum-le, sum-at}
 use Rattle.spans.specs.declared.Spans.{Spans}
 use Rattle.spans.specs.Spans.{same}
+use Rattle.spans.specs.Order.{same-true, same-refl}
 use Rattle.marks.specs.Labels.{marked}
 use Rattle.setting.specs.Settled.{Right}
 use Rattle.table.specs.declared.Row.{Row}
@@ -28,25 +27,6 @@ use Rattle.runs.specs.Runs.{Run, nthRow, rowsOf, labels, chain, weightOf
 use Rattle.runs.specs.Rows.{start-first, start-other}
 use Rattle.runs.specs.Length.{valid-rows}
 use Rattle.runs.specs.Marking.{Marking, Through, plain}
-
--- the test that two sets are the same
-pub same-true : (a b : Spans) → same a b ≡ true → a ≡ b
-same-true a b e =
-    let p = and-true (eqb (a .s1) (b .s1)) _ e in
-    let q = and-true (eqb (a .e1) (b .e1)) _ (p .1) in
-    let r = and-true (eqb (a .s2) (b .s2)) _ (q .1) in
-    let s = and-true (eqb (a .e2) (b .e2)) _ (r .1) in
-    let t = and-true (eqb (a .s3) (b .s3)) _ (s .1) in
-    let e1 : a .s1 ≡ b .s1 = eqb-true _ _ (p .0) in
-    let e2 : a .e1 ≡ b .e1 = eqb-true _ _ (q .0) in
-    let e3 : a .s2 ≡ b .s2 = eqb-true _ _ (r .0) in
-    let e4 : a .e2 ≡ b .e2 = eqb-true _ _ (s .0) in
-    let e5 : a .s3 ≡ b .s3 = eqb-true _ _ (t .0) in
-    let e6 : a .e3 ≡ b .e3 = eqb-true _ _ (t .1) in
-    λ i. record { s1 = e1 i; e1 = e2 i; s2 = e3 i; e2 = e4 i; s3 = e5 i; e3 = e6 i }
-
-pub same-refl : (a b : Spans) → a ≡ b → same a b ≡ true
-same-refl a b e = rw (e, eq-eqb (b .s1) (b .s1) refl, eq-eqb (b .e1) (b .e1) refl, eq-eqb (b .s2) (b .s2) refl, eq-eqb (b .e2) (b .e2) refl, eq-eqb (b .s3) (b .s3) refl, eq-eqb (b .e3) (b .e3) refl)
 
 -- the rows of a run are rows of the automaton
 nth-in : (rows : List Row) (i : ℕ) → i < length rows → In (nthRow rows i) rows
@@ -129,10 +109,12 @@ module _ (ws : List ℕ) (right : RightTable ws) where
     where
       m : ℕ
       m = length line + 2 * automatonOf ws .vars
+
       low : (c : ℕ) → Marking (automatonOf ws) line t c → weightOfSet (automatonOf ws) line t ≤ c
       low c k =
           let e : term line t (k .run) ≡ c = rw (k .fits, same-refl _ _ (k .sets)) (k .weighs) in
           omega (arith, e, sum-le mark (term line t) (in-runs (automatonOf ws) (k .run) m (k .starts) (k .known) (marking-rows line t c k)))
+
       attained : weightOfSet (automatonOf ws) line t < mark → Marking (automatonOf ws) line t (weightOfSet (automatonOf ws) line t)
       attained h =
           let s = sum-at mark (term line t) (runs (automatonOf ws) m) h in

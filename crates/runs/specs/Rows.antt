@@ -89,9 +89,9 @@ module _ (S : Semi) (w : Value S) (A : Automaton) (line : List ℕ) (t : Spans) 
       ∙ sum-ext S _ _ (below (A .states)) (λ q. sum-numbers S (λ rs. cond (marks A line t rs) (S .times (w (A .start q)) (chain S w A q rs)) (S .zero)) (A .rows) m)
 
   pub set-rows : 0 < A .states → A .start 0 ≡ 0 → ((q : ℕ) → 0 < q → A .start q ≡ mark)
-    → ((x : S .W) → S .times (w mark) x ≡ S .zero)
-    → ((rs : List Row) → AllIn (A .rows) rs → S .times (w 0) (chain S w A 0 rs) ≡ chain S w A 0 rs)
-    → setWeight S w A line t ≡ sum S (λ rs. cond (marks A line t rs) (chain S w A 0 rs) (S .zero)) (lists (length line + 2 * A .vars) (A .rows))
+      → ((x : S .W) → S .times (w mark) x ≡ S .zero)
+      → ((rs : List Row) → AllIn (A .rows) rs → S .times (w 0) (chain S w A 0 rs) ≡ chain S w A 0 rs)
+      → setWeight S w A line t ≡ sum S (λ rs. cond (marks A line t rs) (chain S w A 0 rs) (S .zero)) (lists (length line + 2 * A .vars) (A .rows))
   unfolding fromState
   set-rows some zeroth others none unit =
       by-states
@@ -100,9 +100,11 @@ module _ (S : Semi) (w : Value S) (A : Automaton) (line : List ℕ) (t : Spans) 
     where
       ls : List (List Row)
       ls = lists (length line + 2 * A .vars) (A .rows)
+
       never : (q : ℕ) → 0 < q → (b : Bool) (x : S .W) → cond b (S .times (w (A .start q)) x) (S .zero) ≡ S .zero
       never q h true x = rw (others q h) (none x)
       never q h false x = refl
+
       own : (rs : List Row) → S .times (w 0) (chain S w A 0 rs) ≡ chain S w A 0 rs → (b : Bool) → cond b (S .times (w (A .start 0)) (chain S w A 0 rs)) (S .zero) ≡ cond b (chain S w A 0 rs) (S .zero)
       own rs u true = rw zeroth u
       own rs u false = refl
@@ -138,7 +140,7 @@ unfolding jointTo
 zero-joint-fits x h = omega arith
 
 pub set-rows-tropical : (ws : List ℕ) → RightTable ws → (line : List ℕ) (t : Spans)
-  → weightOfSet (automatonOf ws) line t ≡ sum tropical (λ rs. cond (marks (automatonOf ws) line t rs) (chain tropical (λ n. n) (automatonOf ws) 0 rs) mark) (lists (length line + 2 * automatonOf ws .vars) (automatonOf ws .rows))
+    → weightOfSet (automatonOf ws) line t ≡ sum tropical (λ rs. cond (marks (automatonOf ws) line t rs) (chain tropical (λ n. n) (automatonOf ws) 0 rs) mark) (lists (length line + 2 * automatonOf ws .vars) (automatonOf ws .rows))
 set-rows-tropical ws r line t =
     set-rows tropical (λ n. n) (automatonOf ws) line t (states-some ws r) (start-first ws) (start-other ws) mark-joint
     (λ rs i. zero-joint-fits (chain tropical (λ n. n) (automatonOf ws) 0 rs) (chain-cap ws r rs i 0 (r .some-state)))

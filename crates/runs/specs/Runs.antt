@@ -12,10 +12,9 @@
 -- setWeight S w A line t   the weight of a set: the sum over all valid runs that mark it. A valid run has as many rows as the
 --                     line has bytes and two for each variable (theorem valid-rows), so these are all the runs there are to sum
 -- weightOfSet A line t     the same with weights: the least, or the mark
-use mathlib.Core.Path.{_≡_}
-use mathlib.Core.Bool.{Bool, true, false, cond, _&&_}
+use mathlib.Core.Bool.{Bool, cond, _&&_}
 use mathlib.Core.List.{List, [], _∷_, map}
-use Prim.Native.Nat.{ℕ, zero, suc, _+_, _*_, _<_}
+use Prim.Native.Nat.{ℕ, zero, suc, _+_, _*_}
 use lib.Dec.{eqb}
 use lib.ListN.{length}
 use Rattle.basics.specs.Lists.{below, lists, pairs}

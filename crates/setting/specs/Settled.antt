@@ -151,14 +151,19 @@ wants-settled K hK (l ∷ ls) a u hu w = go (ℕ-discrete (l .kind) 0) (wants-se
       where
         m : markerOf l < 6
         m = right-marker (a .0) hK k
+
         var : suc (markerOf l / 2) ≡ l .argument
         var = marker-variable (a .0) k
+
         kind : suc (markerOf l % 2) ≡ l .kind
         kind = marker-kind (a .0) k
+
         own : l .kind ∷ kindsOf (suc (markerOf l / 2)) ls ≡ wants u (markerOf l / 2)
         own = rw (ne-eqb _ _ k, eq-eqb (l .argument) (suc (markerOf l / 2)) (sym var)) at (w (markerOf l / 2) (omega (arith, m)))
+
         h : moveOf u (markerOf l) < 27
         h = wants-taken u (markerOf l) (kindsOf (suc (markerOf l / 2)) ls) hu m (ap (λ (x : ℕ). x ∷ kindsOf (suc (markerOf l / 2)) ls) kind ∙ own)
+
         rest : Wants (moveOf u (markerOf l)) ls
         rest v hv = pick (ℕ-discrete (l .argument) (suc v)) (rw (ne-eqb _ _ k) at (w v hv ∙ label-step K l u v (a .0) k hu m hv h))
           where
@@ -171,7 +176,7 @@ pub settles-wants : (K : ℕ) → K ≤ 3 → (ls : List Label) → All (Right K
 settles-wants K hK ls a u hu =
     record {
       so = λ e. settled-wants K (settle ls u e) a hu;
-      not-so = λ e w. false≢true (sym e ∙ unsettle (wants-settled K hK ls a u hu w))
+      not-so = λ e w. false≢true (sym e ∙ unsettle (wants-settled K hK ls a u hu w));
     }
 
 -- a variable beyond the K has no markers
@@ -199,6 +204,7 @@ valid-at (suc K) ls e v h = go (ℕ-discrete v K) (valid-at K ls)
   where
     p : (equal (kindsOf (suc K) ls) (1 ∷ 2 ∷ []) ≡ true) × (valid K ls ≡ true)
     p = and-true _ _ e
+
     go : Dec (v ≡ K) → (valid K ls ≡ true → (v : ℕ) → v < K → kindsOf (suc v) ls ≡ 1 ∷ 2 ∷ []) → kindsOf (suc v) ls ≡ 1 ∷ 2 ∷ []
     go (yes q) ih = rw q (equal-true _ _ (p .0))
     go (no q) ih = ih (p .1) v (omega arith)
@@ -212,7 +218,7 @@ valid-wants : (K : ℕ) → K ≤ 3 → (ls : List Label) → All (Right K) ls �
 valid-wants K hK ls a =
     record {
       so = λ e v hv. to v hv (decLt v K) (valid-at K ls e v);
-      not-so = λ e w. false≢true (sym e ∙ valid-all K ls (λ v h. w v (omega arith) ∙ begin-wants K v hK (omega arith) ∙ (rw (lt-ltb v K h))))
+      not-so = λ e w. false≢true (sym e ∙ valid-all K ls (λ v h. w v (omega arith) ∙ begin-wants K v hK (omega arith) ∙ (rw (lt-ltb v K h))));
     }
   where
     to : (v : ℕ) → v < 3 → Dec (v < K) → (v < K → kindsOf (suc v) ls ≡ 1 ∷ 2 ∷ []) → kindsOf (suc v) ls ≡ wants (begin K) v

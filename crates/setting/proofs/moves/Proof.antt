@@ -15,7 +15,7 @@ ruled : (t : List ℕ) → length t ≡ 162 → every (λ u. every (λ m. eqb (g
 ruled t l e =
     record {
       long = l;
-      entry = λ u m hu hm. eqb-true _ _ (every-at (λ m. eqb (getD t (u * 6 + m) 0) (moveOf u m)) 6 (every-at (λ u. every (λ m. eqb (getD t (u * 6 + m) 0) (moveOf u m)) 6) 27 e u hu) m hm)
+      entry = λ u m hu hm. eqb-true _ _ (every-at (λ m. eqb (getD t (u * 6 + m) 0) (moveOf u m)) 6 (every-at (λ u. every (λ m. eqb (getD t (u * 6 + m) 0) (moveOf u m)) 6) 27 e u hu) m hm);
     }
 
 returns : tie.Need-returns
