@@ -1,7 +1,7 @@
 // How a setting of the variables moves under a marker (01, "The table"): a constant table of 27 settings by six markers.
 // A setting is a number in base three with variable 1 lowest: untouched 0, open 1, shut 2. Marker 2v - 2 opens
-// Cost: a constant.
-// variable v, marker 2v - 1 closes it. 27 stands where the marker may not be taken.
+// variable v, marker 2v - 1 closes it. 27 stands where the marker may not be taken. Cost: the table
+// is copied once.
 ghost use mathlib.Core.Path.{_≡_};
 ghost use Rattle.setting.specs.Setting.{Moves};
 
