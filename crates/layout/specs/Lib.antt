@@ -2,3 +2,4 @@ pub mod Layout
 pub mod Gather
 pub mod Words
 pub mod Exact
+pub mod Right
