@@ -3,3 +3,4 @@ pub mod Gather
 pub mod Words
 pub mod Exact
 pub mod Right
+pub mod Demand

@@ -44,6 +44,7 @@ plain-high c e = first (among twelve c) e
     second : (b : Bool) → shown c ≡ b → cond b Plain Illegal ≡ Plain → c ≤ 0x7E
     second true f e = leb-true _ _ (and-true (leb 0x20 c) (leb c 0x7E) f .1)
     second false f e = let z : _≡_ {A = ℕ} 0 1 = cc in absurd (omega arith)
+
     first : (b : Bool) → cond b Reserved (cond (shown c) Plain Illegal) ≡ Plain → c ≤ 0x7E
     first true e = let z : _≡_ {A = ℕ} 0 1 = cc in absurd (omega arith)
     first false e = second (shown c) refl e
@@ -83,19 +84,20 @@ posts-right (marked x y z q) p = posts-right q (record { right = p .right })
 
 text-right : {K : ℕ} {w : List ℕ} {a : Pat} → Pattern K w a → Labelled K a
 text-right {K} {w} {a} p =
-    elim p as (λ w a x. Labelled K a) (λ w a x. Labelled K a) (λ w a x. Labelled K a) (λ w a x. Labelled K a)
-    [ lone (t → h) ↦ h
-    | either (t → h) (q → g) ↦ alt-right h g
-    | last (f → h) ↦ h
-    | thence (f → h) (t → g) ↦ cat-right h g
-    | with (x → h) q ↦ posts-right q h
-    | plain {c} e ↦ (let h = plain-high c e in reads-right (omega arith) (omega arith))
-    | escaped h ↦ reads-right (omega arith) (omega (arith, h .high))
-    | any ↦ reads-right (omega arith) (omega arith)
-    | range p q l ↦ reads-right l (omega (arith, q .high))
-    | empty ↦ nothing-right
-    | group (p → h) ↦ grouped-right h
-    | named l m (p → h) ↦ capture-right l m h ]
+    elim p as (λ w a x. Labelled K a) (λ w a x. Labelled K a) (λ w a x. Labelled K a) (λ w a x. Labelled K a) [
+      | lone (t → h) ↦ h
+      | either (t → h) (q → g) ↦ alt-right h g
+      | last (f → h) ↦ h
+      | thence (f → h) (t → g) ↦ cat-right h g
+      | with (x → h) q ↦ posts-right q h
+      | plain {c} e ↦ (let h = plain-high c e in reads-right (omega arith) (omega arith))
+      | escaped h ↦ reads-right (omega arith) (omega (arith, h .high))
+      | any ↦ reads-right (omega arith) (omega arith)
+      | range p q l ↦ reads-right l (omega (arith, q .high))
+      | empty ↦ nothing-right
+      | group (p → h) ↦ grouped-right h
+      | named l m (p → h) ↦ capture-right l m h
+    ]
 
 labels-count : (a : Pat) → length (labelsOf a) ≡ stepsOf a
 unfolding labelsOf stepsOf
@@ -129,9 +131,9 @@ few m h = leb-true _ _ (every-at (λ m. leb (m * suc m) 992) 32 refl m (omega ar
 
 -- arcs that are light, and labels that are right
 module _ (A : ℕ → ℕ → ℕ) (L : ℕ → Label) (K m : ℕ) (m-few : m ≤ 31) (K-few : K ≤ 3)
-  (capped : (x y : ℕ) → A x y ≤ mark)
-  (light : (x y : ℕ) → A x y < mark → A x y ≤ mostWeight)
-  (labels : (p : ℕ) → p < m → Right K (L p)) where
+    (capped : (x y : ℕ) → A x y ≤ mark)
+    (light : (x y : ℕ) → A x y < mark → A x y ≤ mostWeight)
+    (labels : (p : ℕ) → p < m → Right K (L p)) where
   end-right : (x : ℕ) → Dec (A x 0 < mark) → RightEnd (A x 0)
   end-right x (yes h) = inl (light x 0 h)
   end-right x (no h) = inr (omega (arith, capped x 0))
@@ -150,7 +152,7 @@ module _ (A : ℕ → ℕ → ℕ) (L : ℕ → Label) (K m : ℕ) (m-few : m �
         rows = omega (arith, few-rows A L m, few m m-few);
         long = omega (arith, wordsOf-length A L K m, length-append (wordsOf A L K m) rest);
         ends = λ q h. rw (end-at A L K m rest q 0 h) (end-right q (decLt (A q 0) mark));
-        right = rows-nth (RightRow (suc m) K) (wordsOf A L K m ++ rest) (3 + suc m) (length (rowsOf A L m)) (rw (rows-at A L K m rest) (in-all (RightRow (suc m) K) (rowsOf A L m) (λ r i. row-right r (said A L m r i))))
+        right = rows-nth (RightRow (suc m) K) (wordsOf A L K m ++ rest) (3 + suc m) (length (rowsOf A L m)) (rw (rows-at A L K m rest) (in-all (RightRow (suc m) K) (rowsOf A L m) (λ r i. row-right r (said A L m r i))));
       }
 
 -- A COMPILED TABLE IS NEVER NUMBER 7, and the words after it do not matter
