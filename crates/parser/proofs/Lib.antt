@@ -1,0 +1,3 @@
+mod Leaves
+mod Marks
+mod Cases

@@ -1,0 +1,184 @@
+// The card's parser (01, "The pattern on the card"; number 3 of "Numbers, places and order of checks"). It builds the arcs as it goes:
+// pattern, term, factor and atom call one another, the bytes left falling. Each byte is looked at twice at most, and each join of two
+// parts is one pass over the 1,024 cells.
+use pattern::Class;
+ghost use mathlib.Core.Path.{_≡_};
+ghost use Prim.Native.Nat.{_+_, _≤_, _<_, max};
+ghost use lib.ListN.{length, getD};
+ghost use Rattle.pattern.specs.Bytes.{shown};
+ghost use Rattle.pattern.specs.Machine.{starts, digit};
+ghost use Rattle.parser.specs.Result.{Opens, Marks};
+
+// A part of the text: the place after it, its steps, its nesting, and what is charged where it takes no step (the mark: it takes one).
+pub enum Parsed {
+    Good { next: usize, steps: usize, deep: usize, nul: u32 },
+    Bad { place: usize },
+}
+
+// What the first bytes of an atom are. A group opens variable 0.
+pub enum Head {
+    Byte { next: usize, argument: u32 },
+    Empty { next: usize },
+    Open { inside: usize, close: u8, variable: u32 },
+    Wrong { place: usize },
+}
+
+// Past the end as if a byte 0 stood there, which stands nowhere in a pattern.
+fn byte_at(text: &[u8], at: usize) -> u8
+    ensures { λ r. ⌜ r ≡ getD (now (text .entry)) at 0 ⌝ }
+{
+    if at < text.len() { text[at] } else { 0 }
+}
+
+fn printable(b: u8) -> bool
+    ensures { λ r. ⌜ r ≡ shown b ⌝ }
+{
+    if b < 0x20 {
+        return false;
+    }
+    b <= 0x7E
+}
+
+fn decimal(b: u8) -> bool
+    ensures { λ r. ⌜ r ≡ digit b ⌝ }
+{
+    if b < b'0' {
+        return false;
+    }
+    b <= b'9'
+}
+
+fn larger(a: usize, b: usize) -> usize
+    ensures { λ r. ⌜ r ≡ max a b ⌝ }
+{
+    if a < b { b } else { a }
+}
+
+// At a `\`.
+fn escape(text: &[u8], at: usize, k: u32) -> Head
+    requires { ⌜ (length (now text) ≤ 255) × (at ≤ length (now text)) × (getD (now text) at 0 ≡ 92) ⌝ }
+    ensures { λ r. ⌜ Opens k (now (text .entry)) at r ⌝ }
+{
+    let second = at + 1;
+    let b = byte_at(text, second);
+    if printable(b) {
+        Head::Byte { next: second + 1, argument: b as u32 * 256 + b as u32 }
+    } else {
+        Head::Wrong { place: second }
+    }
+}
+
+// At a `[`.
+fn ranged(text: &[u8], at: usize, k: u32) -> Head
+    requires { ⌜ (length (now text) ≤ 255) × (at ≤ length (now text)) × (getD (now text) at 0 ≡ 91) ⌝ }
+    ensures { λ r. ⌜ Opens k (now (text .entry)) at r ⌝ }
+{
+    let low = at + 1;
+    let lo = byte_at(text, low);
+    if !printable(lo) {
+        return Head::Wrong { place: low };
+    }
+    let dash = low + 1;
+    if byte_at(text, dash) != b'-' {
+        return Head::Wrong { place: dash };
+    }
+    let high = dash + 1;
+    let hi = byte_at(text, high);
+    if !printable(hi) {
+        return Head::Wrong { place: high };
+    }
+    if hi < lo {
+        return Head::Wrong { place: high };
+    }
+    let end = high + 1;
+    if byte_at(text, end) != b']' {
+        return Head::Wrong { place: end };
+    }
+    Head::Byte { next: end + 1, argument: lo as u32 * 256 + hi as u32 }
+}
+
+// At a `{`, where there is a variable.
+fn captured(text: &[u8], at: usize, k: u32) -> Head
+    requires { ⌜ (length (now text) ≤ 255) × (at ≤ length (now text)) × (getD (now text) at 0 ≡ 123) × (0 < k) ⌝ }
+    ensures { λ r. ⌜ Opens k (now (text .entry)) at r ⌝ }
+{
+    let which = at + 1;
+    let d = byte_at(text, which);
+    if d < b'1' {
+        return Head::Wrong { place: which };
+    }
+    let variable = (d - b'0') as u32;
+    if k < variable {
+        return Head::Wrong { place: which };
+    }
+    let colon = which + 1;
+    if byte_at(text, colon) != b':' {
+        return Head::Wrong { place: colon };
+    }
+    Head::Open { inside: colon + 1, close: b'}', variable }
+}
+
+fn opening(text: &[u8], at: usize, k: u32) -> Head
+    requires { ⌜ (length (now text) ≤ 255) × (at ≤ length (now text)) ⌝ }
+    ensures { λ r. ⌜ Opens k (now (text .entry)) at r ⌝ }
+{
+    let b = byte_at(text, at);
+    match pattern::class_of(b) {
+        Class::Plain => Head::Byte { next: at + 1, argument: b as u32 * 256 + b as u32 },
+        Class::Illegal => Head::Wrong { place: at },
+        Class::Reserved => match b {
+            b'\\' => escape(text, at, k),
+            b'.' => Head::Byte { next: at + 1, argument: 255 },
+            b'~' => Head::Empty { next: at + 1 },
+            b'[' => ranged(text, at, k),
+            b'(' => Head::Open { inside: at + 1, close: b')', variable: 0 },
+            b'{' => {
+                if k == 0 {
+                    Head::Wrong { place: at }
+                } else {
+                    captured(text, at, k)
+                }
+            }
+            _ => Head::Wrong { place: at },
+        },
+    }
+}
+
+// Whether an atom begins with b.
+fn begins(b: u8, k: u32) -> bool
+    ensures { λ r. ⌜ r ≡ starts k b ⌝ }
+{
+    match pattern::class_of(b) {
+        Class::Plain => true,
+        Class::Illegal => false,
+        Class::Reserved => match b {
+            b'\\' | b'.' | b'~' | b'[' | b'(' => true,
+            b'{' => 0 < k,
+            _ => false,
+        },
+    }
+}
+
+// At a `#`: the weight mark as a part with no step.
+fn mark(text: &[u8], at: usize) -> Parsed
+    requires { ⌜ (length (now text) ≤ 255) × (at ≤ length (now text)) × (getD (now text) at 0 ≡ 35) ⌝ }
+    ensures { λ r. ⌜ Marks (now (text .entry)) at r ⌝ }
+{
+    let one = at + 1;
+    let x = byte_at(text, one);
+    if !decimal(x) {
+        return Parsed::Bad { place: one };
+    }
+    let two = one + 1;
+    let y = byte_at(text, two);
+    if !decimal(y) {
+        return Parsed::Bad { place: two };
+    }
+    let three = two + 1;
+    let z = byte_at(text, three);
+    if !decimal(z) {
+        return Parsed::Bad { place: three };
+    }
+    let weight = (x - b'0') as u32 * 100 + (y - b'0') as u32 * 10 + (z - b'0') as u32;
+    Parsed::Good { next: three + 1, steps: 0, deep: 0, nul: weight }
+}
