@@ -5,13 +5,12 @@
 -- text-toll       at most 999 is charged for each four bytes of a text
 use mathlib.Core.Path.{_≡_, refl, sym, ap, ap₂, _∙_, subst}
 use mathlib.Core.List.{List, [], _∷_, _++_}
-use Prim.Native.Nat.{ℕ, zero, suc, _+_, _*_, _-_, _≤_, _<_}
+use Prim.Native.Nat.{ℕ, _+_, _*_, _≤_}
 use native.Mathlib.Omega.{arith}
 use lib.ListN.{length, length-append}
 use Rattle.marks.specs.Labels.{Label}
-use Rattle.pattern.specs.Bytes.{Digit}
-use Rattle.pattern.specs.Grammar.{Pat, reads, nothing, alt, cat, star, charge, capture, grouped, stepsOf, Posts, none, starred, marked, Pattern, lone, either, Term, last, thence, Factor, with, Atom, plain, escaped, any, range, empty, group, named}
-use Rattle.pattern.specs.Derivations.{Item, step, charged, Der, labelsOf}
+use Rattle.pattern.specs.Grammar.{Pat, reads, nothing, alt, cat, star, charge, capture, grouped, stepsOf, Posts, none, starred, marked, Pattern, lone, either, last, thence, with, Atom, plain, escaped, any, range, empty, group, named}
+use Rattle.pattern.specs.Derivations.{Item, step, Der, labelsOf}
 use Rattle.pattern.specs.Derivations
 use Rattle.arcs.specs.Tree.{Tree, size, tolls, leaves, TreeDer, taken, paid, blank, left, right, then, stop, pass}
 use Rattle.arcs.specs.Tree

@@ -11,7 +11,7 @@ use borrow.Author.Tests.{eq-eqb}
 use Rattle.basics.specs.Members.{In, first, later}
 use Rattle.weight.specs.Weight.{lighterTo, jointTo}
 use Rattle.pattern.specs.Derivations.{Item, step, charged, Gap, gaps}
-use Rattle.arcs.specs.Tree.{Tree, leaf, toll, empty, alt, cat, star, tolls, TreeDer, taken, paid, blank, left, right, then, stop, pass}
+use Rattle.arcs.specs.Tree.{Tree, tolls, TreeDer, taken, paid, blank, left, right, then, stop, pass}
 use Rattle.arcs.specs.Arcs.{altArc, catArc, starArc, arc}
 
 abbrev pub Each : (ℕ → ℕ → ℕ → Type 0) → ℕ → ℕ → List Item → Type 0

@@ -5,7 +5,7 @@
 -- tight           a derivation that charges no more than the arcs along its steps has the arcs as its gaps
 -- tree-layout     an arc is the least total charged between
 -- word-low, word-open, word-there   the least charge of the derivations with the steps w is the sum of the arcs along w
-use mathlib.Core.Path.{_≡_, refl, ap, subst}
+use mathlib.Core.Path.{_≡_, ap, subst}
 use mathlib.Core.List.{List, [], _∷_, _++_, append-assoc}
 use mathlib.Core.Bool.{Bool, true, false, cond}
 use Prim.Native.Nat.{ℕ, zero, suc, _+_, _≤_, _<_}

@@ -12,7 +12,7 @@ use mathlib.Core.List.{List, [], _∷_, _++_}
 use Prim.Native.Nat.{ℕ, _+_}
 use Rattle.basics.specs.Members.{In}
 use Rattle.marks.specs.Labels.{Label}
-use Rattle.pattern.specs.Derivations.{Item, step, charged, steps, charges, Gap, gaps}
+use Rattle.pattern.specs.Derivations.{Item, step, charged, steps, charges, gaps}
 
 pub data Tree : Type 0 where
   leaf : ℕ → ℕ → Tree

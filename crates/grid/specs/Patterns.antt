@@ -5,7 +5,7 @@
 -- grown-star, grown-charge     `*` by again; a weight mark by join with nothing built after it
 -- grown-capture                a leaf, the inside, a leaf, and two times join
 -- grown-whole                  the pattern of a text, built into a cleared grid: each word is the arc
-use mathlib.Core.Path.{_≡_, sym}
+use mathlib.Core.Path.{_≡_}
 use mathlib.Core.List.{List}
 use Prim.Native.Nat.{ℕ, _+_, _≤_, _<_}
 use native.Mathlib.Omega.{arith}
