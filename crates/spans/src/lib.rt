@@ -35,7 +35,8 @@ fn part(k: u32, n: usize, v: u32, s: u32, e: u32) -> bool
     if e < s {
         return false;
     }
-    wide(e - 1) <= n
+    let last = e - 1;
+    wide(last) <= n
 }
 
 impl Spans {

@@ -26,8 +26,8 @@ returns-3 c = no-so (λ p. omega (arith, p .used (c .before .if1 .left) .0))
 returns-4 : tie.Need-returns-4
 returns-4 c = no-so (λ p. omega (arith, p .used (c .before .before .if1 .left) .1))
 
-sub-wide : tie.Need-sub-wide
-sub-wide c = search needs
+sub-last : tie.Need-sub-last
+sub-last c = search needs
 
 wide-requires : tie.Need-wide-requires
 wide-requires c κs = search needs
@@ -41,4 +41,4 @@ returns-5 c =
 
 pub part-spec : {M : Type 1} → statement M
 part-spec =
-    tie.close (tie.spec returns returns-2 returns-3 returns-4 sub-wide wide-requires returns-5)
+    tie.close (tie.spec returns returns-2 returns-3 returns-4 sub-last wide-requires returns-5)

@@ -46,7 +46,9 @@ returns-4 : tie.Need-returns-4
 returns-4 c = no-so (λ p. refused (c .before .right-ends .result) (c .before .right-ends .ensures) (c .if4 .taken) (p .ends))
 
 cast-right-rows : tie.Need-cast-right-rows
-cast-right-rows c = search needs
+cast-right-rows c =
+    let h = kept (c .before .before .before .before .before .right-header .result) (c .before .before .before .before .before .right-header .ensures) (c .before .before .before .before .if2 .left) in
+    omega (arith, h .rows)
 
 right-rows-requires : tie.Need-right-rows-requires
 right-rows-requires c κs =
