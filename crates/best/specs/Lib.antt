@@ -1,1 +1,4 @@
 pub mod Best
+pub mod Decode
+pub mod Code
+pub mod Marked
