@@ -2,3 +2,5 @@ pub mod Best
 pub mod Decode
 pub mod Code
 pub mod Marked
+pub mod Keys
+pub mod Pick
