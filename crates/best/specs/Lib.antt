@@ -4,3 +4,4 @@ pub mod Code
 pub mod Marked
 pub mod Keys
 pub mod Pick
+pub mod Among
