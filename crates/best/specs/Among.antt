@@ -7,13 +7,13 @@
 -- set-cost            the weight of a set is the least weight of the runs with its key
 -- among-best          where the answer is below the cap, its two parts are the weight and the key of the best set that is allowed
 -- among-none          else every set that is allowed has the mark
-use mathlib.Core.Path.{_≡_, refl, sym, ap, ap₂, _∙_, subst}
+use mathlib.Core.Path.{_≡_, refl, sym, ap, _∙_, subst}
 use mathlib.Core.Bool.{Bool, true, false, cond, _&&_, false≢true}
-use mathlib.Core.List.{List, [], _∷_, map}
+use mathlib.Core.List.{List, map}
 use Prim.Native.Nat.{ℕ, zero, suc, _+_, _*_, _/_, _≤_, _<_, min}
 use native.Mathlib.Omega.{arith}
 use native.Mathlib.Decide.{decLt, decLe, ℕ-discrete}
-use lib.Dec.{eqb, ltb}
+use lib.Dec.{eqb}
 use lib.ListN.{length}
 use borrow.Author.Tests.{eq-eqb, ne-eqb, le-ltb, lt-ltb}
 use Rattle.basics.specs.Every.{and-true}
@@ -31,18 +31,18 @@ use Rattle.setting.specs.Settled.{Settled, settle, settles-valid, begin-low, Ri
 use Rattle.table.specs.declared.Row.{Row}
 use Rattle.table.specs.Table.{Automaton, labelOf}
 use Rattle.runs.specs.Runs.{chain, weightOfSet}
-use Rattle.runs.specs.Rows.{marks, sum-ext-in}
-use Rattle.togo.specs.ToGo.{Spot, rowsLeft, kernel, begun}
+use Rattle.runs.specs.Rows.{sum-ext-in}
+use Rattle.togo.specs.ToGo.{Spot, begun}
 use Rattle.togo.specs.Price.{base, cap, bigPrice, bigEnd, keyOf, placed, answer}
 use Rattle.togo.specs.Runs.{within, plain, plain-chain, kernel-runs}
-use Rattle.togo.specs.Marks.{hadMarker, place, within-places, places-within, placed-marked}
+use Rattle.togo.specs.Marks.{hadMarker, within-places, places-within, placed-marked}
 use Rattle.togo.specs.Right.{RightAutomaton, right-labels}
 use Rattle.togo.specs.Sets.{Pinned, begin-had, pinned-same, rows-left, set-weights}
 use Rattle.best.specs.Decode.{spansOfKey}
 use Rattle.best.specs.Code.{Fits, key-low, key-order, key-same, key-back}
 use Rattle.best.specs.Marked.{marked-set}
 use Rattle.best.specs.Keys.{labelsKey, key-marked, big-plain}
-use Rattle.best.specs.Pick.{picked, costIf, costOf, Picked, picked-weight, picked-best, picked-none}
+use Rattle.best.specs.Pick.{picked, costIf, costOf, picked-weight, picked-best, picked-none}
 
 abbrev pub Allowed : (ℕ → ℕ → Bool) → ℕ → Spans → Type 0
 Allowed allow K t = (m : ℕ) → m < 6 → m / 2 < K → allow m (placed t m) ≡ true
@@ -64,6 +64,7 @@ set-fits K n h t s m hm = go m hm (parts 1 _ _ (s .one)) (parts 2 _ _ (s .two)) 
         cases : Dec (v ≤ K) → (a ≤ 1025) × (b ≤ 1025)
         cases (yes l) = let q = p .used l in (omega arith, omega arith)
         cases (no l) = let q = p .unused (omega arith) in (omega arith, omega arith)
+
     go : (m : ℕ) → m < 6 → (t .s1 ≤ 1025) × (t .e1 ≤ 1025) → (t .s2 ≤ 1025) × (t .e2 ≤ 1025) → (t .s3 ≤ 1025) × (t .e3 ≤ 1025) → placed t m ≤ 1025
     go zero hm a b c = a .0
     go (suc zero) hm a b c = a .1
@@ -109,12 +110,14 @@ module _ (A : Automaton) (right : RightAutomaton A) (line : List ℕ) where
       ∙ ap (λ (n : ℕ). sum (least cap) (λ rs. cond (stays allow rs && settles (begin (A .vars)) (map labelOf rs)) (plain (least cap) bigPrice (bigEnd A) rs start) cap) (lists n (A .rows))) (rows-left (A .vars) line (right .few))
       ∙ sum-ext-in (least cap) _ _ (runsOf A line)
       (λ rs i. rw (big-plain A rs start, plain-chain tropical (λ n. n) A rs start, settles-valid (A .vars) (right .few) (map labelOf rs) (labels-of rs i))
-        (cases (stays allow rs) (valid (A .vars) (map labelOf rs)) (spells (map labelOf rs) line) (chain tropical (λ n. n) A 0 rs) (runKey rs)))
+      (cases (stays allow rs) (valid (A .vars) (map labelOf rs)) (spells (map labelOf rs) line) (chain tropical (λ n. n) A 0 rs) (runKey rs)))
     where
       start : Spot
       start = begun line (begin (A .vars)) .spot
+
       fits : (x : ℕ) → lighterTo cap cap (min cap (x * base)) ≡ min cap (x * base)
       fits x = unfold lighterTo in (omega arith)
+
       cases : (w s p : Bool) (x k : ℕ) → cond (w && s) (min cap (cond p x mark * base + k)) cap ≡ min cap (cond w (cond (p && s) x mark) mark * base + k)
       cases true true true x k = refl
       cases true true false x k = refl
@@ -164,6 +167,7 @@ module _ (A : Automaton) (right : RightAutomaton A) (line : List ℕ) where
         cond-mark : (b : Bool) → mark ≡ cond b mark mark
         cond-mark true = refl
         cond-mark false = refl
+
         tell : (rs : List Row) → In rs (runsOf A line) → reads A line rs ≡ true → Dec (runKey rs ≡ keyOf t) → same (marked (map labelOf rs)) t ≡ eqb (runKey rs) (keyOf t)
         tell rs i c (yes e) = same-refl _ t (key-same _ t (run-fits rs i c) (set-fits (A .vars) (length line) short t set) (sym (run-key rs i c) ∙ e)) ∙ sym (eq-eqb _ _ e)
         tell rs i c (no e) = no-same (same (marked (map labelOf rs)) t) refl ∙ sym (ne-eqb _ _ e)
@@ -171,8 +175,9 @@ module _ (A : Automaton) (right : RightAutomaton A) (line : List ℕ) where
             no-same : (b : Bool) → same (marked (map labelOf rs)) t ≡ b → b ≡ false
             no-same true q = absurd (e (run-key rs i c ∙ ap keyOf (same-true _ t q)))
             no-same false q = refl
+
         go : (rs : List Row) → In rs (runsOf A line) → (b : Bool) → reads A line rs ≡ b
-          → cond (b && same (marked (map labelOf rs)) t) (chain tropical (λ n. n) A 0 rs) mark ≡ cond (eqb (runKey rs) (keyOf t)) (cond b (chain tropical (λ n. n) A 0 rs) mark) mark
+            → cond (b && same (marked (map labelOf rs)) t) (chain tropical (λ n. n) A 0 rs) mark ≡ cond (eqb (runKey rs) (keyOf t)) (cond b (chain tropical (λ n. n) A 0 rs) mark) mark
         go rs i true e = ap (λ (b : Bool). cond b (chain tropical (λ n. n) A 0 rs) mark) (tell rs i e (ℕ-discrete (runKey rs) (keyOf t)))
         go rs i false e = cond-mark (eqb (runKey rs) (keyOf t))
 
@@ -187,11 +192,13 @@ module _ (A : Automaton) (right : RightAutomaton A) (line : List ℕ) where
         inside : (rs : List Row) (b : Bool) → cond b (runWeight A line rs) mark < mark → runWeight A line rs < mark
         inside rs true h = h
         inside rs false h = absurd (omega arith)
+
         cond-mark : (b : Bool) → mark ≡ cond b mark mark
         cond-mark true = refl
         cond-mark false = refl
+
         go : (rs : List Row) → In rs (runsOf A line) → (b : Bool) → reads A line rs ≡ b
-          → cond (b && same (marked (map labelOf rs)) t) (chain tropical (λ n. n) A 0 rs) mark ≡ cond (stays allow rs) (cond b (chain tropical (λ n. n) A 0 rs) mark) mark
+            → cond (b && same (marked (map labelOf rs)) t) (chain tropical (λ n. n) A 0 rs) mark ≡ cond (stays allow rs) (cond b (chain tropical (λ n. n) A 0 rs) mark) mark
         go rs i true c = ap (λ (b : Bool). cond b (chain tropical (λ n. n) A 0 rs) mark) (sym (pinned-same (A .vars) (length line) t (right .few) set allow pins (map labelOf rs) (labels-of rs i) (settled rs i c)))
         go rs i false c = cond-mark (stays allow rs)
 
@@ -222,7 +229,7 @@ module _ (A : Automaton) (right : RightAutomaton A) (line : List ℕ) where
             own = set-cost t set ∙ ap (costOf (runWeight A line) runKey (runsOf A line)) (b .may .2) ∙ b .own;
             real = hw;
             lightest = λ s hs a. rw (set-cost s hs) (b .lightest (keyOf s) (s, hs, refl, a));
-            first = λ s hs a g. key-order t s ft (set-fits (A .vars) (length line) short s hs) (rw (b .may .2) (b .first (keyOf s) (s, hs, refl, a) (sym (set-cost s hs) ∙ g)))
+            first = λ s hs a g. key-order t s ft (set-fits (A .vars) (length line) short s hs) (rw (b .may .2) (b .first (keyOf s) (s, hs, refl, a) (sym (set-cost s hs) ∙ g)));
           })
 
       pub among-none : (w k : ℕ) → answer allow A line ≡ w * base + k → mark ≤ w → (s : Spans) → SetOfSpans (A .vars) (length line) s → Allowed allow (A .vars) s → weightOfSet A line s ≡ mark

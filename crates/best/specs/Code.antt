@@ -7,10 +7,10 @@
 -- digit-zero, digit-low, digit-back   what a position's digit has to be
 -- Fits t          the positions of t are at most 1025
 -- key-low, key-order, key-same, key-back   the same of keys of sets
-use mathlib.Core.Path.{_≡_, refl, sym, ap, ap₂, _∙_}
-use mathlib.Core.Logic.{_⊎_, inl, inr}
+use mathlib.Core.Path.{_≡_, refl, sym, ap, _∙_}
+use mathlib.Core.Logic.{inl, inr}
 use mathlib.Core.List.{List, [], _∷_}
-use Prim.Native.Nat.{ℕ, zero, suc, _+_, _*_, _^_, _/_, _%_, _≤_, _<_}
+use Prim.Native.Nat.{ℕ, suc, _+_, _*_, _^_, _≤_, _<_}
 use native.Mathlib.Omega.{arith}
 use native.Mathlib.Decide.{decLt, ℕ-discrete}
 use native.Mathlib.Nat.{mul-le-mul-right, pow-suc}
@@ -60,7 +60,7 @@ to-lex (x ∷ xs) (y ∷ ys) e a b h = go (ℕ-discrete x y) (to-lex xs ys (omeg
 
 -- the digits of a number of six, back again
 six-back : (a b c d e f k : ℕ) → All Digit (a ∷ b ∷ c ∷ d ∷ e ∷ f ∷ []) → k ≡ number (a ∷ b ∷ c ∷ d ∷ e ∷ f ∷ [])
-  → (keyDigit k 0 ≡ a) × (keyDigit k 1 ≡ b) × (keyDigit k 2 ≡ c) × (keyDigit k 3 ≡ d) × (keyDigit k 4 ≡ e) × (keyDigit k 5 ≡ f)
+    → (keyDigit k 0 ≡ a) × (keyDigit k 1 ≡ b) × (keyDigit k 2 ≡ c) × (keyDigit k 3 ≡ d) × (keyDigit k 4 ≡ e) × (keyDigit k 5 ≡ f)
 six-back a b c d e f k h q = omega arith
 
 -- what a position's digit has to be: M-100 changes these with `digit` and `undigit`

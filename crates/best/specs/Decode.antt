@@ -20,5 +20,5 @@ spansOfKey k =
       s2 = undigit 2 (keyDigit k 2);
       e2 = undigit 3 (keyDigit k 3);
       s3 = undigit 4 (keyDigit k 4);
-      e3 = undigit 5 (keyDigit k 5)
+      e3 = undigit 5 (keyDigit k 5);
     }

@@ -6,10 +6,10 @@
 -- key-marked            so the key is that of the set
 -- big-plain             the price of a list of rows in weights and keys
 use mathlib.Core.Path.{_≡_, refl, sym, ap, _∙_, subst}
-use mathlib.Core.Bool.{Bool, true, false, cond, _&&_}
+use mathlib.Core.Bool.{true, cond}
 use mathlib.Core.List.{List, [], _∷_, map}
 use mathlib.Core.Option.{Option, none, some}
-use Prim.Native.Nat.{ℕ, zero, suc, _+_, _-_, _*_, _^_, _≤_, _<_, min}
+use Prim.Native.Nat.{ℕ, zero, suc, _+_, _-_, _*_, _^_, _<_, min}
 use native.Mathlib.Omega.{arith}
 use native.Mathlib.Decide.{ℕ-discrete}
 use lib.Dec.{eqb}
@@ -18,7 +18,6 @@ use Rattle.basics.specs.Lists.{All}
 use Rattle.weight.specs.Weight.{mark, jointTo}
 use Rattle.weight.specs.Totals.{after, weight}
 use Rattle.weight.specs.Tropical.{least, tropical}
-use Rattle.spans.specs.declared.Spans.{Spans}
 use Rattle.spans.specs.Spans.{digit}
 use Rattle.marks.specs.Labels.{Label, isByte, marked}
 use Rattle.setting.specs.Setting.{moveOf, markerOf}
@@ -82,6 +81,7 @@ key-marked K ls a u hu s = key-tallies s 1 ∙ sums (λ m. tally m 1 ls) (λ m. 
   where
     each : (m : ℕ) → m < 6 → tally m 1 ls ≡ digit m (placed (marked ls) m)
     each m hm = tally-place m hm s hu 1 ∙ ap (digit m) (sym (placed-marked K ls a m hm))
+
     sums : (f g : ℕ → ℕ) → ((m : ℕ) → m < 6 → f m ≡ g m) → six f ≡ g 0 * 1026 ^ 5 + (g 1 * 1026 ^ 4 + (g 2 * 1026 ^ 3 + (g 3 * 1026 ^ 2 + (g 4 * 1026 ^ 1 + (g 5 * 1026 ^ 0 + 0)))))
     sums f g e = omega (arith, e 0 (omega arith), e 1 (omega arith), e 2 (omega arith), e 3 (omega arith), e 4 (omega arith), e 5 (omega arith))
 
@@ -107,15 +107,18 @@ module _ (A : Automaton) where
     where
       l : Label
       l = labelOf r
+
       rest : ℕ
       rest = labelsKey (nextPos (s .pos) l) (map labelOf rs)
+
       price : bigPrice s r ≡ r .weight * base + labelKey (s .pos) l
       price = unfold bigPrice keyAt in refl
+
       go : (o : Option Spot) → pass s r ≡ o → ((d : Spot) → bigs rs d ≡ min cap (weights rs d * base + labelsKey (d .pos) (map labelOf rs)))
-        → after (least cap) pass bigPrice (stops (least cap) (bigEnd A)) s r (λ d. bigs rs d) o
+          → after (least cap) pass bigPrice (stops (least cap) (bigEnd A)) s r (λ d. bigs rs d) o
           ≡ min cap (after tropical pass (λ s r. r .weight) (stops tropical (A .end)) s r (λ d. weights rs d) o * base + (labelKey (s .pos) l + rest))
       go none e ih = omega arith
-      go (some d) e ih = 
+      go (some d) e ih =
           rw (price, ih d)
           (mix (r .weight) (weights rs d) (labelKey (s .pos) l) (labelsKey (d .pos) (map labelOf rs))
-            ∙ ap (λ (p : ℕ). min cap (jointTo mark (r .weight) (weights rs d) * base + (labelKey (s .pos) l + labelsKey p (map labelOf rs)))) (pass-pos s r d e))
+          ∙ ap (λ (p : ℕ). min cap (jointTo mark (r .weight) (weights rs d) * base + (labelKey (s .pos) l + labelsKey p (map labelOf rs)))) (pass-pos s r d e))

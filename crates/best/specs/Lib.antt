@@ -5,3 +5,4 @@ pub mod Marked
 pub mod Keys
 pub mod Pick
 pub mod Among
+pub mod Questions

@@ -1,8 +1,8 @@
 -- What a valid list of right labels that spells a line marks is a set of spans of the line.
-use mathlib.Core.Path.{_≡_, refl, sym, ap, _∙_}
-use mathlib.Core.Bool.{Bool, true, false, cond, _&&_, not, false≢true, and-false}
+use mathlib.Core.Path.{_≡_, refl}
+use mathlib.Core.Bool.{Bool, true, false, cond, _&&_, false≢true, and-false}
 use mathlib.Core.List.{List, [], _∷_}
-use Prim.Native.Nat.{ℕ, zero, suc, _+_, _≤_, _<_}
+use Prim.Native.Nat.{ℕ, suc, _+_, _≤_, _<_}
 use native.Mathlib.Omega.{arith}
 use native.Mathlib.Decide.{ℕ-discrete}
 use lib.Dec.{eqb}
@@ -24,8 +24,9 @@ module _ (k v : ℕ) where
       pick : (b : Bool) (x m : ℕ) → p ≤ m → x ≤ m → cond b p x ≤ m
       pick true x m h g = h
       pick false x m h g = g
+
       go : (bs : List ℕ) (t : Bool) → isByte l ≡ t → spells (l ∷ ls) bs ≡ true → ((bs : List ℕ) → spells ls bs ≡ true → (p : ℕ) → placeOf k v p ls ≤ p + length bs)
-        → cond (eqb (l .kind) k && eqb (l .argument) v) p (placeOf k v (cond (isByte l) (p + 1) p) ls) ≤ p + length bs
+          → cond (eqb (l .kind) k && eqb (l .argument) v) p (placeOf k v (cond (isByte l) (p + 1) p) ls) ≤ p + length bs
       go [] true z e ih = absurd (false≢true (rw z at e))
       go [] false z e ih = rw z (pick (eqb (l .kind) k && eqb (l .argument) v) _ _ (omega arith) (ih [] (rw z at e) p))
       go (b ∷ bs) true z e ih = rw z (pick (eqb (l .kind) k && eqb (l .argument) v) _ _ (omega arith) (omega (arith, ih bs (and-true (reads l b) (spells ls bs) (rw z at e) .1) (p + 1))))
@@ -43,6 +44,7 @@ module _ (k v : ℕ) where
         where
           both : l .kind ∷ kindsOf v ls ≡ k ∷ ks
           both = rw (ne-eqb (l .kind) 0 z, eq-eqb _ _ d) at e
+
           own : l .kind ≡ k
           own = cc both
       go (no z) (no d) ih = rw (ne-eqb (l .kind) 0 z, ne-eqb _ _ d, and-false) (ih (rw (ne-eqb (l .kind) 0 z, ne-eqb _ _ d) at e) p)
@@ -59,8 +61,10 @@ in-order v (l ∷ ls) e p = go (ℕ-discrete (l .kind) 0) (ℕ-discrete (l .argu
       where
         both : l .kind ∷ kindsOf v ls ≡ 1 ∷ 2 ∷ []
         both = rw (ne-eqb (l .kind) 0 z, eq-eqb _ _ d) at e
+
         own : l .kind ≡ 1
         own = cc both
+
         rest : kindsOf v ls ≡ 2 ∷ []
         rest = cc both
     go (no z) (no d) ih = rw (ne-eqb (l .kind) 0 z, ne-eqb _ _ d, and-false (eqb (l .kind) 1), and-false (eqb (l .kind) 2)) (ih (rw (ne-eqb (l .kind) 0 z, ne-eqb _ _ d) at e) p)
@@ -80,7 +84,7 @@ module _ (K : ℕ) (line : List ℕ) (ls : List Label) (a : All (Right K) ls) (r
   part v =
       record {
         used = λ h. (let e = valid-at K ls good v (omega arith) in (place-low 1 (suc v) (omega arith) _ ls e 1, in-order (suc v) ls e 1, omega (arith, place-high 2 (suc v) ls line reading 1)));
-        unused = λ h. (no-marker K 1 (suc v) (omega arith) h ls a 1, no-marker K 2 (suc v) (omega arith) h ls a 1)
+        unused = λ h. (no-marker K 1 (suc v) (omega arith) h ls a 1, no-marker K 2 (suc v) (omega arith) h ls a 1);
       }
 
   pub marked-set : SetOfSpans K (length line) (marked ls)

@@ -7,7 +7,7 @@
 -- picked-weight   the weight part of picked is the least cost
 -- picked-best     its two parts are a cost and a tag that are picked
 -- picked-none     where it is the cap, every tag that is ok costs the mark
-use mathlib.Core.Path.{_≡_, refl, sym, ap, _∙_}
+use mathlib.Core.Path.{_≡_, refl, _∙_}
 use mathlib.Core.Bool.{Bool, true, false, cond}
 use mathlib.Core.List.{List, [], _∷_}
 use Prim.Native.Nat.{ℕ, _+_, _*_, _≤_, _<_, min}
@@ -38,7 +38,7 @@ pub record Picked {X : Type 0} (cost tag : X → ℕ) (xs : List X) (ok : ℕ �
   pub first : (j : ℕ) → ok j → costOf cost tag xs j ≡ w → k ≤ j
 
 one-more : (c t p w : ℕ) → (c < mark → t < base) → w * base ≤ p → p < w * base + base → Dec (c < mark)
-  → (min mark (min c w) * base ≤ min cap (min (min cap (c * base + t)) p)) × (min cap (min (min cap (c * base + t)) p) < min mark (min c w) * base + base)
+    → (min mark (min c w) * base ≤ min cap (min (min cap (c * base + t)) p)) × (min cap (min (min cap (c * base + t)) p) < min mark (min c w) * base + base)
 one-more c t p w h l g (yes k) = let s = h k in (omega arith, omega arith)
 one-more c t p w h l g (no k) = (omega arith, omega arith)
 
@@ -78,7 +78,7 @@ module _ {X : Type 0} (cost tag : X → ℕ) (xs : List X) (fits : X → Bool) (
   got = picked (costIf fits cost) tag xs
 
   module _ (small : (x : X) → In x xs → cost x < mark → tag x < base)
-    (to : (x : X) → In x xs → cost x < mark → fits x ≡ true → ok (tag x)) (from : (x : X) → In x xs → cost x < mark → ok (tag x) → fits x ≡ true) where
+      (to : (x : X) → In x xs → cost x < mark → fits x ≡ true → ok (tag x)) (from : (x : X) → In x xs → cost x < mark → ok (tag x) → fits x ≡ true) where
     picked-at : got < cap → (x : X) × In x xs × (fits x ≡ true) × (cost x * base + tag x ≡ got)
     unfolding picked
     picked-at h =

@@ -5,15 +5,15 @@
 -- kernel-equation the kernel solves its equation
 -- kernel-solved   what solves the equation at each configuration is the kernel
 use mathlib.Core.Path.{_≡_, refl, sym, ap, _∙_}
-use mathlib.Core.Bool.{Bool, true, false, cond, _&&_, _||_, not, false≢true}
+use mathlib.Core.Bool.{Bool, true, false, cond, _&&_, _||_, not}
 use mathlib.Core.List.{List, [], _∷_}
 use mathlib.Core.Option.{Option, none, some}
-use Prim.Native.Nat.{ℕ, zero, suc, _+_, _-_, _*_, _/_, _%_, _^_, _≤_, _<_}
+use Prim.Native.Nat.{ℕ, zero, suc, _+_, _-_, _/_, _%_, _^_, _≤_, _<_}
 use native.Mathlib.Omega.{arith}
-use native.Mathlib.Decide.{decLt, ℕ-discrete}
+use native.Mathlib.Decide.{decLt}
 use lib.Dec.{eqb, ltb}
 use lib.ListN.{length}
-use borrow.Author.Tests.{eq-eqb, ne-eqb, lt-ltb, le-ltb, eqb-true, ltb-true}
+use borrow.Author.Tests.{lt-ltb, le-ltb, eqb-true}
 use Rattle.basics.specs.Every.{every, every-at}
 use Rattle.basics.specs.Lists.{All}
 use Rattle.weight.specs.Semiring.{Semi, sum}

@@ -6,17 +6,16 @@
 -- no-place        a marker that was had has no place more
 -- within-places, places-within   markers stand where they are allowed exactly when their places are allowed
 -- placed-marked   the numbers of the set that right labels mark are the places of the six markers
-use mathlib.Core.Path.{_≡_, refl, sym, ap, _∙_, subst}
+use mathlib.Core.Path.{_≡_, refl, sym, _∙_, subst}
 use mathlib.Core.Bool.{Bool, true, false, cond, _&&_, not, _||_, false≢true}
 use mathlib.Core.List.{List, [], _∷_}
-use Prim.Native.Nat.{ℕ, zero, suc, _+_, _-_, _*_, _/_, _%_, _^_, _≤_, _<_}
+use Prim.Native.Nat.{ℕ, zero, suc, _+_, _-_, _*_, _/_, _%_, _≤_, _<_}
 use native.Mathlib.Omega.{arith}
 use native.Mathlib.Decide.{ℕ-discrete}
 use lib.Dec.{ltb, eqb}
-use borrow.Author.Tests.{eq-eqb, ne-eqb, lt-ltb, eqb-true}
+use borrow.Author.Tests.{eq-eqb, ne-eqb, lt-ltb}
 use Rattle.basics.specs.Every.{every, every-at, and-true}
 use Rattle.basics.specs.Lists.{All}
-use Rattle.spans.specs.declared.Spans.{Spans}
 use Rattle.marks.specs.Labels.{Label, isByte, placeOf, marked}
 use Rattle.setting.specs.Setting.{digitOf, moveOf, markerOf}
 use Rattle.setting.specs.Settled.{Settled, shut, over, took, Right, right-six}

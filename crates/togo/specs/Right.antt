@@ -8,17 +8,16 @@ use mathlib.Core.Path.{_≡_, refl, sym, ap, _∙_}
 use mathlib.Core.Bool.{Bool, true, false, cond, _&&_}
 use mathlib.Core.List.{List, [], _∷_, map}
 use mathlib.Core.Option.{Option, none, some}
-use Prim.Native.Nat.{ℕ, zero, suc, _+_, _*_, _≤_, _<_}
+use Prim.Native.Nat.{ℕ, zero, suc, _+_, _≤_, _<_}
 use native.Mathlib.Omega.{arith}
 use lib.Dec.{eqb}
-use lib.ListN.{length}
-use Rattle.basics.specs.Lists.{All, all-map, lists}
-use Rattle.basics.specs.Members.{In, AllIn, all-in, lists-in}
+use Rattle.basics.specs.Lists.{All, lists}
+use Rattle.basics.specs.Members.{AllIn, all-in, lists-in}
 use Rattle.weight.specs.Weight.{mark}
 use Rattle.weight.specs.Semiring.{Semi, sum}
 use Rattle.weight.specs.Sums.{sum-ext-all}
 use Rattle.weight.specs.Totals.{after, weight, togo}
-use Rattle.marks.specs.Labels.{Label, isByte, reads}
+use Rattle.marks.specs.Labels.{isByte, reads}
 use Rattle.setting.specs.Setting.{settles}
 use Rattle.setting.specs.Settled.{Right}
 use Rattle.table.specs.declared.Row.{Row}

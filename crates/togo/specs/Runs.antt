@@ -8,20 +8,19 @@
 -- held-weight     settings, and a place for each marker, leave the runs that they should: the others weigh zero
 -- kernel-runs     THE THEOREM, in any semiring
 -- plain-chain     a list of rows weighs what it does as a chain where it spells the line, else zero
-use mathlib.Core.Path.{_≡_, refl, sym, ap, ap₂, _∙_}
-use mathlib.Core.Bool.{Bool, true, false, cond, _&&_, _||_, not}
+use mathlib.Core.Path.{_≡_, refl, sym, ap, _∙_}
+use mathlib.Core.Bool.{Bool, true, false, cond, _&&_, _||_}
 use mathlib.Core.List.{List, [], _∷_, map}
 use mathlib.Core.Option.{Option, none, some}
 use Prim.Native.Nat.{ℕ, zero, suc, _+_}
 use native.Mathlib.Omega.{arith}
 use native.Mathlib.Decide.{ℕ-discrete}
 use lib.Dec.{eqb, ltb}
-use lib.ListN.{length}
 use borrow.Author.Tests.{ne-eqb}
 use Rattle.basics.specs.Lists.{lists}
 use Rattle.weight.specs.Semiring.{Semi, sum}
 use Rattle.weight.specs.Sums.{sum-ext}
-use Rattle.weight.specs.Totals.{after, weight, togo, total, total-togo}
+use Rattle.weight.specs.Totals.{after, weight, total, total-togo}
 use Rattle.marks.specs.Labels.{Label, isByte, reads, spells}
 use Rattle.setting.specs.Setting.{moveOf, markerOf, settles}
 use Rattle.table.specs.declared.Row.{Row}

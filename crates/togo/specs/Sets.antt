@@ -5,15 +5,14 @@
 -- pinned-same         a settled list of right labels stays within the places of a set exactly when it marks the set
 -- set-togo            THE THEOREM
 -- set-togo-weights    the same with weights
-use mathlib.Core.Path.{_≡_, refl, sym, ap, ap₂, _∙_}
-use mathlib.Core.Bool.{Bool, true, false, cond, _&&_, and-false, false≢true}
+use mathlib.Core.Path.{_≡_, refl, sym, ap, _∙_}
+use mathlib.Core.Bool.{Bool, true, false, cond, _&&_, false≢true}
 use mathlib.Core.List.{List, [], _∷_, map}
-use Prim.Native.Nat.{ℕ, zero, suc, _+_, _-_, _*_, _/_, _%_, _≤_, _<_, min}
+use Prim.Native.Nat.{ℕ, zero, suc, _+_, _-_, _*_, _/_, _≤_, _<_, min}
 use native.Mathlib.Omega.{arith}
-use native.Mathlib.Decide.{decLt}
 use lib.Dec.{eqb, ltb}
 use lib.ListN.{length}
-use borrow.Author.Tests.{eqb-true, eq-eqb, ltb-true, lt-ltb}
+use borrow.Author.Tests.{eqb-true, eq-eqb, ltb-true}
 use Rattle.basics.specs.Every.{every, every-at}
 use Rattle.basics.specs.Lists.{All, all-map, lists}
 use Rattle.basics.specs.Members.{AllIn, lists-in}
@@ -27,7 +26,7 @@ use Rattle.marks.specs.Labels.{Label, spells, valid, marked}
 use Rattle.setting.specs.Setting.{settles, begin}
 use Rattle.setting.specs.Settled.{Settled, settle, settles-valid, begin-low, Right}
 use Rattle.table.specs.declared.Row.{Row}
-use Rattle.table.specs.Table.{Automaton, automatonOf, labelOf, RightRow, RightTable}
+use Rattle.table.specs.Table.{Automaton, automatonOf, labelOf, RightTable}
 use Rattle.runs.specs.Runs.{Value, chain, setWeight, weightOfSet}
 use Rattle.runs.specs.Rows.{marks, set-rows, sum-ext-in, zero-joint-fits}
 use Rattle.togo.specs.ToGo.{Spot, had, rowsLeft, kernel, begun}
