@@ -26,7 +26,7 @@ use Rattle.table.specs.declared.Row.{Row}
 use Rattle.table.specs.Table.{Automaton, labelOf}
 use Rattle.togo.specs.ToGo.{Spot, pass}
 use Rattle.togo.specs.Price.{base, cap, keyAt, keyOf, bigPrice, bigEnd, placed}
-use Rattle.togo.specs.Runs.{nextPos, stopAt, stops, plain, pass-pos}
+use Rattle.togo.specs.Runs.{nextPos, stopAt, stops, plain, passed}
 use Rattle.togo.specs.Marks.{hadMarker, isMarker, place, taken, still, placed-marked}
 use Rattle.best.specs.Code.{digit-zero}
 
@@ -121,4 +121,4 @@ module _ (A : Automaton) where
       go (some d) e ih =
           rw (price, ih d)
           (mix (r .weight) (weights rs d) (labelKey (s .pos) l) (labelsKey (d .pos) (map labelOf rs))
-          ∙ ap (λ (p : ℕ). min cap (jointTo mark (r .weight) (weights rs d) * base + (labelKey (s .pos) l + labelsKey p (map labelOf rs)))) (pass-pos s r d e))
+          ∙ ap (λ (p : ℕ). min cap (jointTo mark (r .weight) (weights rs d) * base + (labelKey (s .pos) l + labelsKey p (map labelOf rs)))) (passed s r d e .at))

@@ -19,13 +19,13 @@ use Rattle.basics.specs.Lists.{All}
 use Rattle.weight.specs.Semiring.{Semi, sum}
 use Rattle.weight.specs.Sums.{sum-ext, sum-zero, zero-sum}
 use Rattle.weight.specs.Totals.{after, togo, solved}
-use Rattle.marks.specs.Labels.{isByte, reads}
+use Rattle.marks.specs.Labels.{isByte}
 use Rattle.setting.specs.Setting.{moveOf}
 use Rattle.setting.specs.Settled.{move-six}
 use Rattle.table.specs.declared.Row.{Row}
 use Rattle.table.specs.Table.{labelOf}
-use Rattle.togo.specs.ToGo.{Spot, Config, marker, readOn, pass, next, both, step, held, ending, had, rowsLeft, kernel}
-use Rattle.togo.specs.Runs.{ending-normal, ending-early}
+use Rattle.togo.specs.ToGo.{Spot, Config, marker, pass, next, both, step, held, ending, had, rowsLeft, kernel}
+use Rattle.togo.specs.Runs.{passed, ending-normal, ending-early}
 
 -- a marker that may be taken is taken in one of the 27 settings, and is one more marker had
 one-more : ℕ → ℕ → Bool
@@ -50,71 +50,42 @@ had-six u = omega arith
 abbrev left : Config → ℕ
 left c = rowsLeft (c .spot .rest) (c .setting)
 
--- what a row reads of the line
-pass-left : (s : Spot) (r : Row) (d : Spot) → pass s r ≡ some d → length (s .rest) ≡ cond (isByte (labelOf r)) 1 0 + length (d .rest)
-unfolding pass readOn
-pass-left s r d e = go (eqb (r .from) (s .state)) (isByte (labelOf r)) (s .rest) e
-  where
-    on : (b : ℕ) (bs : List ℕ) (t : Bool) → cond t (some (record { rest = bs; pos = s .pos + 1; state = r .to })) none ≡ some d → length (b ∷ bs) ≡ 1 + length (d .rest)
-    on b bs true e = let q : bs ≡ d .rest = cc in rw (← q) (omega arith)
-    on b bs false e = let z : _≡_ {A = ℕ} 0 1 = cc in absurd (omega arith)
-
-    go : (f k : Bool) (bs : List ℕ) → cond f (cond k (readOn bs (s .pos) r) (some (record { rest = bs; pos = s .pos; state = r .to }))) none ≡ some d → length bs ≡ cond k 1 0 + length (d .rest)
-    go false k bs e = let z : _≡_ {A = ℕ} 0 1 = cc in absurd (omega arith)
-    go true true [] e = let z : _≡_ {A = ℕ} 0 1 = cc in absurd (omega arith)
-    go true true (b ∷ bs) e = on b bs (reads (labelOf r) b) e
-    go true false bs e = let q : bs ≡ d .rest = cc in rw (← q) (omega arith)
-
-next-had : (u : ℕ) (r : Row) (v : ℕ) → next u r ≡ some v → had v ≡ cond (isByte (labelOf r)) 0 1 + had u
+-- the setting that a row leads to
+moved-on : (u : ℕ) (r : Row) (v : ℕ) → next u r ≡ some v → (had v ≡ cond (isByte (labelOf r)) 0 1 + had u) × (u < 27 → v < 27)
 unfolding next
-next-had u r v e = go (isByte (labelOf r)) (decLt (moveOf u (marker r)) 27) e
+moved-on u r v e = go (isByte (labelOf r)) (decLt (moveOf u (marker r)) 27) e
   where
-    go : (k : Bool) → Dec (moveOf u (marker r) < 27) → cond k (some u) (cond (ltb (moveOf u (marker r)) 27) (some (moveOf u (marker r))) none) ≡ some v → had v ≡ cond k 0 1 + had u
-    go true t e = let q : u ≡ v = cc in rw (← q) (omega arith)
-    go false (yes h) e = let q : moveOf u (marker r) ≡ v = inside (rw (lt-ltb _ _ h) at e) in rw (← q) (had-more u (marker r) h ∙ (omega arith))
-      where
-        inside : some (moveOf u (marker r)) ≡ some v → moveOf u (marker r) ≡ v
-        inside e = cc
-    go false (no h) e = nothing (rw (le-ltb (moveOf u (marker r)) 27 (omega arith)) at e)
-      where
-        nothing : none ≡ some v → had v ≡ 1 + had u
-        nothing e = let z : _≡_ {A = ℕ} 0 1 = cc in absurd (omega arith)
+    taken : moveOf u (marker r) < 27 → some (moveOf u (marker r)) ≡ some v → (had v ≡ 1 + had u) × (u < 27 → v < 27)
+    taken h e = let q : moveOf u (marker r) ≡ v = cc in rw (← q) (had-more u (marker r) h ∙ (omega arith), λ _. h)
 
-next-low : (u : ℕ) (r : Row) (v : ℕ) → u < 27 → next u r ≡ some v → v < 27
-unfolding next
-next-low u r v hu e = go (isByte (labelOf r)) (decLt (moveOf u (marker r)) 27) e
-  where
-    go : (k : Bool) → Dec (moveOf u (marker r) < 27) → cond k (some u) (cond (ltb (moveOf u (marker r)) 27) (some (moveOf u (marker r))) none) ≡ some v → v < 27
-    go true t e = let q : u ≡ v = cc in omega arith
-    go false (yes h) e = let q : moveOf u (marker r) ≡ v = inside (rw (lt-ltb _ _ h) at e) in omega arith
-      where
-        inside : some (moveOf u (marker r)) ≡ some v → moveOf u (marker r) ≡ v
-        inside e = cc
+    nothing : none ≡ some v → (had v ≡ 1 + had u) × (u < 27 → v < 27)
+    nothing e = let z : _≡_ {A = ℕ} 0 1 = cc in absurd (omega arith)
+
+    go : (k : Bool) → Dec (moveOf u (marker r) < 27) → cond k (some u) (cond (ltb (moveOf u (marker r)) 27) (some (moveOf u (marker r))) none) ≡ some v → (had v ≡ cond k 0 1 + had u) × (u < 27 → v < 27)
+    go true t e = let q : u ≡ v = cc in rw (← q) (omega arith, λ h. h)
+    go false (yes h) e = taken h (rw (lt-ltb _ _ h) at e)
     go false (no h) e = nothing (rw (le-ltb (moveOf u (marker r)) 27 (omega arith)) at e)
-      where
-        nothing : none ≡ some v → v < 27
-        nothing e = let z : _≡_ {A = ℕ} 0 1 = cc in absurd (omega arith)
 
 both-parts : (o : Option Spot) (s : Option ℕ) (d : Config) → both o s ≡ some d → (o ≡ some (d .spot)) × (s ≡ some (d .setting))
 both-parts none s d e = let z : _≡_ {A = ℕ} 0 1 = cc in absurd (omega arith)
 both-parts (some l) none d e = let z : _≡_ {A = ℕ} 0 1 = cc in absurd (omega arith)
 both-parts (some l) (some u) d e = (cc, cc)
 
-step-parts : (c : Config) (r : Row) (d : Config) → step c r ≡ some d → (pass (c .spot) r ≡ some (d .spot)) × (next (c .setting) r ≡ some (d .setting))
+pub step-parts : (c : Config) (r : Row) (d : Config) → step c r ≡ some d → (pass (c .spot) r ≡ some (d .spot)) × (next (c .setting) r ≡ some (d .setting))
 unfolding step
 step-parts c r d e = both-parts (pass (c .spot) r) (next (c .setting) r) d e
 
 pub step-falls : (c : Config) (r : Row) (d : Config) → step c r ≡ some d → left c ≡ suc (left d)
 step-falls c r d e =
     let p = step-parts c r d e in
-    go (isByte (labelOf r)) (length (c .spot .rest)) (length (d .spot .rest)) (had (c .setting)) (had (d .setting)) (pass-left (c .spot) r (d .spot) (p .0)) (next-had (c .setting) r (d .setting) (p .1)) (had-six (d .setting))
+    go (isByte (labelOf r)) (length (c .spot .rest)) (length (d .spot .rest)) (had (c .setting)) (had (d .setting)) (passed (c .spot) r (d .spot) (p .0) .left) (moved-on (c .setting) r (d .setting) (p .1) .0) (had-six (d .setting))
   where
     go : (k : Bool) (a b x y : ℕ) → a ≡ cond k 1 0 + b → y ≡ cond k 0 1 + x → y ≤ 6 → a + (6 - x) ≡ suc (b + (6 - y))
     go true a b x y e f h = omega arith
     go false a b x y e f h = omega arith
 
 pub step-low : (c : Config) (r : Row) (d : Config) → c .setting < 27 → step c r ≡ some d → d .setting < 27
-step-low c r d h e = next-low (c .setting) r (d .setting) h (step-parts c r d e .1)
+step-low c r d h e = moved-on (c .setting) r (d .setting) (step-parts c r d e .1) .1 h
 
 module _ (S : Semi) (allow : ℕ → ℕ → Bool) (price : Spot → Row → S .W) (end : ℕ → S .W) (rows : List Row) (normal : (q : ℕ) → S .plus (S .zero) (end q) ≡ end q) where
   pub kernel-solved : (F : Config → S .W)

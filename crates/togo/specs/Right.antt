@@ -5,11 +5,10 @@
 -- right-labels        the labels of a list of its rows are right
 -- kernel-runs-to      kernel-runs, with nothing asked of the end words of states that are none
 use mathlib.Core.Path.{_≡_, refl, sym, ap, _∙_}
-use mathlib.Core.Bool.{Bool, true, false, cond, _&&_}
+use mathlib.Core.Bool.{Bool, cond, _&&_}
 use mathlib.Core.List.{List, [], _∷_, map}
 use mathlib.Core.Option.{Option, none, some}
-use Prim.Native.Nat.{ℕ, zero, suc, _+_, _≤_, _<_}
-use native.Mathlib.Omega.{arith}
+use Prim.Native.Nat.{ℕ, zero, suc, _≤_, _<_}
 use lib.Dec.{eqb}
 use Rattle.basics.specs.Lists.{All, lists}
 use Rattle.basics.specs.Members.{AllIn, all-in, lists-in}
@@ -17,15 +16,15 @@ use Rattle.weight.specs.Weight.{mark}
 use Rattle.weight.specs.Semiring.{Semi, sum}
 use Rattle.weight.specs.Sums.{sum-ext-all}
 use Rattle.weight.specs.Totals.{after, weight, togo}
-use Rattle.marks.specs.Labels.{isByte, reads}
 use Rattle.setting.specs.Setting.{settles}
 use Rattle.setting.specs.Settled.{Right}
 use Rattle.table.specs.declared.Row.{Row}
 use Rattle.table.specs.Table.{Automaton, automatonOf, labelOf, RightRow, RightTable}
 use Rattle.table.specs.Rows.{rows-right, end-fits}
 use Rattle.runs.specs.Rows.{sum-ext-in, start-first, start-other}
-use Rattle.togo.specs.ToGo.{Spot, Config, readOn, pass, next, both, step, held, ending, rowsLeft, kernel, begun}
-use Rattle.togo.specs.Runs.{stopAt, stops, within, plain, ending-stops, kernel-runs}
+use Rattle.togo.specs.ToGo.{Spot, Config, pass, step, held, ending, rowsLeft, kernel, begun}
+use Rattle.togo.specs.Equation.{step-parts}
+use Rattle.togo.specs.Runs.{passed, stopAt, stops, within, plain, ending-stops, kernel-runs}
 
 pub record RightAutomaton (A : Automaton) : Type 0 where
   pub some-state : 0 < A .states
@@ -70,29 +69,6 @@ module _ (S : Semi) {C R : Type 0} (step : C → R → Option C) (price : C → 
   weight-same [] a c g = agree c g
   weight-same (r ∷ l) a c g = after-same _ _ c r (a .0) (weight-same l (a .1)) (step c r) refl
 
-pass-state : (s : Spot) (r : Row) (d : Spot) → pass s r ≡ some d → d .state ≡ r .to
-unfolding pass readOn
-pass-state s r d e = go (eqb (r .from) (s .state)) (isByte (labelOf r)) (s .rest) e
-  where
-    on : (bs : List ℕ) (t : Bool) → cond t (some (record { rest = bs; pos = s .pos + 1; state = r .to })) none ≡ some d → d .state ≡ r .to
-    on bs true e = cc
-    on bs false e = let z : _≡_ {A = ℕ} 0 1 = cc in absurd (omega arith)
-
-    go : (f k : Bool) (bs : List ℕ) → cond f (cond k (readOn bs (s .pos) r) (some (record { rest = bs; pos = s .pos; state = r .to }))) none ≡ some d → d .state ≡ r .to
-    go false k bs e = let z : _≡_ {A = ℕ} 0 1 = cc in absurd (omega arith)
-    go true true [] e = let z : _≡_ {A = ℕ} 0 1 = cc in absurd (omega arith)
-    go true true (b ∷ bs) e = on bs (reads (labelOf r) b) e
-    go true false bs e = cc
-
-step-state : (c : Config) (r : Row) (d : Config) → step c r ≡ some d → d .spot .state ≡ r .to
-unfolding step
-step-state c r d e = go (pass (c .spot) r) refl (next (c .setting) r) e
-  where
-    go : (o : Option Spot) → pass (c .spot) r ≡ o → (s : Option ℕ) → both o s ≡ some d → d .spot .state ≡ r .to
-    go none p s e = let z : _≡_ {A = ℕ} 0 1 = cc in absurd (omega arith)
-    go (some l) p none e = let z : _≡_ {A = ℕ} 0 1 = cc in absurd (omega arith)
-    go (some l) p (some u) e = let q : l ≡ d .spot = cc in rw (← q) (pass-state (c .spot) r l p)
-
 module _ (S : Semi) (allow : ℕ → ℕ → Bool) (price : Spot → Row → S .W) (end : ℕ → S .W) (rows : List Row) (bytes : List ℕ) (u n : ℕ) (some-state : 0 < n) (leads : All (λ r. r .to < n) rows)
     (normal : (q : ℕ) → q < n → S .plus (S .zero) (end q) ≡ end q) where
   abbrev cut : ℕ → S .W
@@ -108,8 +84,8 @@ module _ (S : Semi) (allow : ℕ → ℕ → Bool) (price : Spot → Row → S .
   pub kernel-runs-to : kernel S allow price end rows (begun bytes u) ≡ sum S (λ rs. cond (within allow 1 (map labelOf rs) && settles u (map labelOf rs)) (plain S price end rs (begun bytes u .spot)) (S .zero)) (lists (rowsLeft bytes u) rows)
   unfolding kernel
   kernel-runs-to =
-      togo-same S step (held S allow price) (ending S end) (ending S cut) (λ c. c .spot .state < n) (λ r. r .to < n) (λ c r d h e. rw (step-state c r d e) h) ending-cut rows leads (rowsLeft bytes u) (begun bytes u) some-state
+      togo-same S step (held S allow price) (ending S end) (ending S cut) (λ c. c .spot .state < n) (λ r. r .to < n) (λ c r d h e. rw (passed (c .spot) r (d .spot) (step-parts c r d e .0) .leads) h) ending-cut rows leads (rowsLeft bytes u) (begun bytes u) some-state
       ∙ kernel-runs S allow price cut rows bytes u (λ q. S .zero-plus (S .zero) (end q))
       ∙ sum-ext-in S _ _ (lists (rowsLeft bytes u) rows)
       (λ rs i. ap (λ (x : S .W). cond (within allow 1 (map labelOf rs) && settles u (map labelOf rs)) x (S .zero))
-      (sym (weight-same S pass price (stops S end) (stops S cut) (λ s. s .state < n) (λ r. r .to < n) (λ s r d h e. rw (pass-state s r d e) h) stops-cut rs (all-rows _ rows leads rs (lists-in rows _ rs i .all)) (begun bytes u .spot) some-state)))
+      (sym (weight-same S pass price (stops S end) (stops S cut) (λ s. s .state < n) (λ r. r .to < n) (λ s r d h e. rw (passed s r d e .leads) h) stops-cut rs (all-rows _ rows leads rs (lists-in rows _ rs i .all)) (begun bytes u .spot) some-state)))

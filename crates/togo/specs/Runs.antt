@@ -16,6 +16,7 @@ use Prim.Native.Nat.{ℕ, zero, suc, _+_}
 use native.Mathlib.Omega.{arith}
 use native.Mathlib.Decide.{ℕ-discrete}
 use lib.Dec.{eqb, ltb}
+use lib.ListN.{length}
 use borrow.Author.Tests.{ne-eqb}
 use Rattle.basics.specs.Lists.{lists}
 use Rattle.weight.specs.Semiring.{Semi, sum}
@@ -45,20 +46,28 @@ within allow p (l ∷ ls) = (isByte l || allow (markerOf l) p) && within allow (
 abbrev pub plain : (S : Semi) → (Spot → Row → S .W) → (ℕ → S .W) → List Row → Spot → S .W
 plain S price end rs s = weight S pass price (stops S end) rs s
 
--- where a row leads to is at its next position
-pub pass-pos : (s : Spot) (r : Row) (d : Spot) → pass s r ≡ some d → d .pos ≡ nextPos (s .pos) (labelOf r)
+-- what a row that can be taken does: it leads to its state, and moves the position and the line together
+pub record Passed (s : Spot) (r : Row) (d : Spot) : Type 0 where
+  pub leads : d .state ≡ r .to
+  pub at : d .pos ≡ nextPos (s .pos) (labelOf r)
+  pub left : length (s .rest) ≡ cond (isByte (labelOf r)) 1 0 + length (d .rest)
+
+pub passed : (s : Spot) (r : Row) (d : Spot) → pass s r ≡ some d → Passed s r d
 unfolding pass readOn
-pass-pos s r d e = go (eqb (r .from) (s .state)) (isByte (labelOf r)) (s .rest) e
+passed s r d e = let t = go (eqb (r .from) (s .state)) (isByte (labelOf r)) (s .rest) e in record { leads = t .0; at = t .1; left = t .2 }
   where
-    on : (b : ℕ) (bs : List ℕ) (t : Bool) → cond t (some (record { rest = bs; pos = s .pos + 1; state = r .to })) none ≡ some d → d .pos ≡ s .pos + 1
-    on b bs true e = cc
+    Three : Bool → List ℕ → Type 0
+    Three k bs = (d .state ≡ r .to) × (d .pos ≡ cond k (s .pos + 1) (s .pos)) × (length bs ≡ cond k 1 0 + length (d .rest))
+
+    on : (b : ℕ) (bs : List ℕ) (t : Bool) → cond t (some (record { rest = bs; pos = s .pos + 1; state = r .to })) none ≡ some d → Three true (b ∷ bs)
+    on b bs true e = let q : bs ≡ d .rest = cc in (cc, cc, rw (← q) (omega arith))
     on b bs false e = let z : _≡_ {A = ℕ} 0 1 = cc in absurd (omega arith)
 
-    go : (f k : Bool) (bs : List ℕ) → cond f (cond k (readOn bs (s .pos) r) (some (record { rest = bs; pos = s .pos; state = r .to }))) none ≡ some d → d .pos ≡ cond k (s .pos + 1) (s .pos)
+    go : (f k : Bool) (bs : List ℕ) → cond f (cond k (readOn bs (s .pos) r) (some (record { rest = bs; pos = s .pos; state = r .to }))) none ≡ some d → Three k bs
     go false k bs e = let z : _≡_ {A = ℕ} 0 1 = cc in absurd (omega arith)
     go true true [] e = let z : _≡_ {A = ℕ} 0 1 = cc in absurd (omega arith)
     go true true (b ∷ bs) e = on b bs (reads (labelOf r) b) e
-    go true false bs e = cc
+    go true false bs e = let q : bs ≡ d .rest = cc in (cc, cc, rw (← q) (omega arith))
 
 abbrev follow : (ℕ → Bool) → Option ℕ → Bool
 follow f none = false
@@ -148,7 +157,7 @@ module _ (S : Semi) (allow : ℕ → ℕ → Bool) (price : Spot → Row → S .
       go none e s ih = zero-cond S ((A && W (nextPos (c .spot .pos) (labelOf r))) && follow T s)
       go (some d) e none ih = none-set S (A && W (nextPos (c .spot .pos) (labelOf r))) _
       go (some d) e (some u) ih =
-          rw (← pass-pos (c .spot) r d e) (ap (S .times (held S allow price c r)) (ih (record { spot = d; setting = u })) ∙ pull S A (W (d .pos)) (T u) (price (c .spot) r) (X d))
+          rw (← passed (c .spot) r d e .at) (ap (S .times (held S allow price c r)) (ih (record { spot = d; setting = u })) ∙ pull S A (W (d .pos)) (T u) (price (c .spot) r) (X d))
 
   pub kernel-runs : (rows : List Row) (bytes : List ℕ) (u : ℕ) → ((q : ℕ) → S .plus (S .zero) (end q) ≡ end q)
       → kernel S allow price end rows (begun bytes u) ≡ sum S (λ rs. cond (within allow 1 (map labelOf rs) && settles u (map labelOf rs)) (plain S price end rs (begun bytes u .spot)) (S .zero)) (lists (rowsLeft bytes u) rows)
