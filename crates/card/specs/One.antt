@@ -35,7 +35,7 @@ parted (x ∷ p) (y ∷ q) l m f g e =
     let r = parted p q l m (tail-plain x p f) (tail-plain y q g) (tail-same e) in
     (ap₂ _∷_ (head-same e) (r .0), r .1)
 
-line-one-one : (text : List ℕ) (K J : ℕ) (r s : List ℕ) → LineOne text K r → LineOne text J s → (K ≡ J) × (r ≡ s)
+pub line-one-one : (text : List ℕ) (K J : ℕ) (r s : List ℕ) → LineOne text K r → LineOne text J s → (K ≡ J) × (r ≡ s)
 line-one-one text K J r s a b =
     (omega (arith, line-first text K r a .digit, line-first text J s b .digit), ap (drop 7) (sym (a .whole) ∙ b .whole))
 

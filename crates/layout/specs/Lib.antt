@@ -4,3 +4,4 @@ pub mod Words
 pub mod Exact
 pub mod Right
 pub mod Demand
+pub mod Reading
