@@ -7,3 +7,4 @@ pub mod Found
 pub mod Laws
 pub mod Joins
 pub mod One
+pub mod Best
