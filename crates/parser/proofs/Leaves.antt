@@ -36,31 +36,42 @@ pub snoc : (s : List ℕ) (at p : ℕ) {pre : List ℕ} → at ≤ p → p < len
 snoc s at p {pre} l m h = sym (slice-join at p (p + 1) s l (omega arith)) ∙ (ap (λ (w : List ℕ). w ++ slice p (p + 1) s) h ∙ ap (λ (w : List ℕ). pre ++ w) (slice-byte p s m))
 
 pub leaf-stuck : (k : ℕ) (s : List ℕ) (at p : ℕ) (pre rest : List ℕ) (tree : Pat) (state : Todo → St)
-  → at < p → p ≤ length s → slice at p s ≡ pre → Atom k (pre ++ rest) tree
-  → ((d : Todo) → run k (wants d) pre ≡ state d) → ((d : Todo) → step k (state d) (getD s p 0) ≡ dead) → ((d : Todo) → done (state d) ≡ false)
-  → Stuck Atom k s at p
+    → at < p → p ≤ length s → slice at p s ≡ pre → Atom k (pre ++ rest) tree
+    → ((d : Todo) → run k (wants d) pre ≡ state d) → ((d : Todo) → step k (state d) (getD s p 0) ≡ dead) → ((d : Todo) → done (state d) ≡ false)
+    → Stuck Atom k s at p
 leaf-stuck k s at p pre rest tree state l m h v r x y = record {
-  from = omega arith; within = m; rest = rest; tree = tree;
+  from = omega arith;
+  within = m;
+  rest = rest;
+  tree = tree;
   viable = subst (λ (w : List ℕ). Atom k (w ++ rest) tree) (sym h) v;
   dies = λ q d. ap (run k (wants d)) (snoc s at p (omega arith) q h) ∙ (run-append k (wants d) pre (getD s p 0 ∷ []) ∙ (ap (λ (u : St). run k u (getD s p 0 ∷ [])) (r d) ∙ x d));
   short = λ d. ap (λ (w : List ℕ). done (run k (wants d) w)) h ∙ (ap done (r d) ∙ y d);
-  some = λ _ _. l
-  }
+  some = λ _ _. l;
+}
 
 -- nothing is read: the byte at `at` starts no atom
 pub none-stuck : (k : ℕ) (s : List ℕ) (at : ℕ) → at ≤ length s → starts k (getD s at 0) ≡ false → Stuck Atom k s at at
 none-stuck k s at m h = record {
-  from = omega arith; within = m; rest = 126 ∷ []; tree = nothing;
+  from = omega arith;
+  within = m;
+  rest = 126 ∷ [];
+  tree = nothing;
   viable = subst (λ (w : List ℕ). Atom k (w ++ 126 ∷ []) nothing) (sym (slice-empty at s)) empty;
   dies = λ q d. ap (run k (wants d)) (slice-byte at s q) ∙ no-start k d (getD s at 0) h;
   short = λ d. ap (λ (w : List ℕ). done (run k (wants d) w)) (slice-empty at s);
-  some = λ q e. let z : _≡_ {A = Bool} true false = sym e ∙ h in (let y : _≡_ {A = ℕ} 0 1 = cc in absurd (omega arith))
-  }
+  some = λ q e. let z : _≡_ {A = Bool} true false = sym e ∙ h in (let y : _≡_ {A = ℕ} 0 1 = cc in absurd (omega arith));
+}
 
 pub leaf-done : (k : ℕ) (s : List ℕ) (at n : ℕ) (pre : List ℕ) (tree : Pat) → at < n → n ≤ length s → slice at n s ≡ pre → Atom k pre tree → at + stepsOf tree ≤ n → nestingOf tree ≡ 0 → Done Atom AtomStop k s at n tree
 leaf-done k s at n pre tree l m h v f z = record {
-  past = l; within = m; derives = subst (λ (w : List ℕ). Atom k w tree) (sym h) v; few = f; shallow = omega arith; stops = λ _. tt
-  }
+  past = l;
+  within = m;
+  derives = subst (λ (w : List ℕ). Atom k w tree) (sym h) v;
+  few = f;
+  shallow = omega arith;
+  stops = λ _. tt;
+}
 
 pub to-shown : (c : ℕ) → shown c ≡ true → Shown c
 to-shown c h = let p = and-true (leb 0x20 c) (leb c 0x7E) h in record { low = leb-true 0x20 c (p .0); high = leb-true c 0x7E (p .1) }
@@ -79,6 +90,14 @@ digit-stands s p h = stands s p (omega (arith, to-digit (getD s p 0) h .low))
 
 pub is-stands : (s : List ℕ) (p x : ℕ) → getD s p 0 ≡ x → 0 < x → p < length s
 is-stands s p x e h = stands s p (omega arith)
+
+pub starts-stands : (k : ℕ) (s : List ℕ) (p : ℕ) → starts k (getD s p 0) ≡ true → p < length s
+unfolding classOf
+starts-stands k s p h = stands s p (some (getD s p 0) h)
+  where
+    some : (c : ℕ) → starts k c ≡ true → 0 < c
+    some zero e = let y : _≡_ {A = ℕ} 0 1 = cc in absurd (omega arith)
+    some (suc c) e = omega arith
 
 -- `\`
 module _ (k : ℕ) (s : List ℕ) (at : ℕ) (e : getD s at 0 ≡ 92) where
@@ -178,10 +197,14 @@ module _ (k : ℕ) (s : List ℕ) (at : ℕ) (e : getD s at 0 ≡ 123) (pos : 0 
         let q = is-stands s (at + 1 + 1) 58 h (omega arith) in
         let t : slice at (at + 1 + 1 + 1) s ≡ 123 ∷ v ∷ 58 ∷ [] = snoc s at (at + 1 + 1) (omega arith) q two ∙ ap (λ (c : ℕ). 123 ∷ v ∷ c ∷ []) h in
         record {
-          past = omega arith; within = omega arith; bracket = curly; closes = refl;
+          past = omega arith;
+          within = omega arith;
+          bracket = curly;
+          closes = refl;
           makes = λ {w} {a} p. subst (λ (x : List ℕ). Atom k (x ++ (w ++ 125 ∷ [])) (capture (v - 48) a)) (sym t) (named a1 b1 p);
           opens = λ d. ap (run k (wants d)) t ∙ named-opens k v a1 b1 d;
-          few = λ a. omega arith; deepens = λ a. refl
+          few = λ a. omega arith;
+          deepens = λ a. refl;
         }
 
 -- `(`
@@ -191,10 +214,14 @@ group-open k s at e =
     let l = is-stands s at 40 e (omega arith) in
     let t : slice at (at + 1) s ≡ 40 ∷ [] = one s at 40 l e in
     record {
-      past = omega arith; within = omega arith; bracket = round; closes = refl;
+      past = omega arith;
+      within = omega arith;
+      bracket = round;
+      closes = refl;
       makes = λ {w} {a} p. subst (λ (x : List ℕ). Atom k (x ++ (w ++ 41 ∷ [])) (grouped a)) (sym t) (group p);
       opens = λ d. ap (run k (wants d)) t;
-      few = λ a. omega arith; deepens = λ a. refl
+      few = λ a. omega arith;
+      deepens = λ a. refl;
     }
 
 -- the atoms of one byte

@@ -1,3 +1,5 @@
 mod Leaves
 mod Marks
 mod Cases
+mod Growth
+mod Parts

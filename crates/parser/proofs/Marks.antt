@@ -25,15 +25,18 @@ abbrev pub three : ℕ → ℕ → ℕ → ℕ
 three x y z = (x - 48) * 100 + (y - 48) * 10 + (z - 48)
 
 mark-stuck : (s : List ℕ) (at p : ℕ) (pre rest : List ℕ) (tree : Pat → Pat) (state : Todo → Pat → St)
-  → at < p → p ≤ length s → slice at p s ≡ pre → ((a : Pat) → Posts (pre ++ rest) a (tree a))
-  → ((k : ℕ) (d : Todo) (a : Pat) → run k (after d a) pre ≡ state d a) → ((k : ℕ) (d : Todo) (a : Pat) → step k (state d a) (getD s p 0) ≡ dead) → ((d : Todo) (a : Pat) → done (state d a) ≡ false)
-  → PostsStuck s at p
+    → at < p → p ≤ length s → slice at p s ≡ pre → ((a : Pat) → Posts (pre ++ rest) a (tree a))
+    → ((k : ℕ) (d : Todo) (a : Pat) → run k (after d a) pre ≡ state d a) → ((k : ℕ) (d : Todo) (a : Pat) → step k (state d a) (getD s p 0) ≡ dead) → ((d : Todo) (a : Pat) → done (state d a) ≡ false)
+    → PostsStuck s at p
 mark-stuck s at p pre rest tree state l m h v r x y = record {
-  from = omega arith; within = m; rest = rest; tree = tree;
+  from = omega arith;
+  within = m;
+  rest = rest;
+  tree = tree;
   viable = λ a. subst (λ (w : List ℕ). Posts (w ++ rest) a (tree a)) (sym h) (v a);
   dies = λ q k d a. ap (run k (after d a)) (snoc s at p (omega arith) q h) ∙ (run-append k (after d a) pre (getD s p 0 ∷ []) ∙ (ap (λ (u : St). run k u (getD s p 0 ∷ [])) (r k d a) ∙ x k d a));
-  short = λ k d a. ap (λ (w : List ℕ). done (run k (after d a) w)) h ∙ (ap done (r k d a) ∙ y d a)
-  }
+  short = λ k d a. ap (λ (w : List ℕ). done (run k (after d a) w)) h ∙ (ap done (r k d a) ∙ y d a);
+}
 
 module _ (s : List ℕ) (at : ℕ) (e : getD s at 0 ≡ 35) where
   pub mark-1 : digit (getD s (at + 1) 0) ≡ false → PostsStuck s at (at + 1)
@@ -75,9 +78,10 @@ module _ (s : List ℕ) (at : ℕ) (e : getD s at 0 ≡ 35) where
           let q = digit-stands s (at + 1 + 1 + 1) h in
           let f : slice at (at + 1 + 1 + 1 + 1) s ≡ 35 ∷ x ∷ y ∷ z ∷ [] = snoc s at (at + 1 + 1 + 1) (omega arith) q both in
           record {
-            past = omega arith; within = omega arith;
+            past = omega arith;
+            within = omega arith;
             joins = λ {v} {a} {b} p. subst (λ (u : List ℕ). Posts (u ++ v) a b) (sym f) (marked (to-digit x h1) (to-digit y h2) (to-digit z h) p);
-            runs = λ k d a. ap (run k (after d a)) f ∙ rw (h1, h2, h)
+            runs = λ k d a. ap (run k (after d a)) f ∙ rw (h1, h2, h);
           }
 
 pub charged : {s : List ℕ} {at n x y z a b c : ℕ} → a ≡ x → b ≡ y → c ≡ z → Marked s at n (three x y z) → Marks s at (Good n 0 0 (three a b c))
@@ -86,27 +90,37 @@ charged e f g m = rw (e, f, g) (good m)
 -- none
 pub posts-none : (s : List ℕ) (at : ℕ) → at ≤ length s → (eqb (getD s at 0) 42 ≡ false) × (eqb (getD s at 0) 35 ≡ false) → PostsDone s at at (λ a. a)
 posts-none s at l h = record {
-  past = omega arith; within = l;
-  derives = λ a. subst (λ (w : List ℕ). Posts w a a) (sym (slice-empty at s)) none; counts = λ a. refl; level = λ a. refl; stops = λ _. h
-  }
+  past = omega arith;
+  within = l;
+  derives = λ a. subst (λ (w : List ℕ). Posts w a a) (sym (slice-empty at s)) none;
+  counts = λ a. refl;
+  level = λ a. refl;
+  stops = λ _. h;
+}
 
 -- a star
 module _ (s : List ℕ) (at : ℕ) (e : getD s at 0 ≡ 42) where
   pub star-done : (n : ℕ) {turn : Pat → Pat} → PostsDone s (at + 1) n turn → PostsDone s at n (λ a. turn (star a))
   unfolding stepsOf nestingOf
   star-done n {turn} p = record {
-    past = omega arith; within = p .within;
+    past = omega arith;
+    within = p .within;
     derives = λ a. subst (λ (w : List ℕ). Posts w a (turn (star a))) (sym (then-more s at n 42 (omega arith) (p .within) e refl)) (starred (p .derives (star a)));
-    counts = λ a. p .counts (star a); level = λ a. p .level (star a); stops = p .stops
-    }
+    counts = λ a. p .counts (star a);
+    level = λ a. p .level (star a);
+    stops = p .stops;
+  }
 
   pub star-stuck : (n : ℕ) → PostsStuck s (at + 1) n → PostsStuck s at n
   star-stuck n p = record {
-    from = omega arith; within = p .within; rest = p .rest; tree = λ a. p .tree (star a);
+    from = omega arith;
+    within = p .within;
+    rest = p .rest;
+    tree = λ a. p .tree (star a);
     viable = λ a. subst (λ (w : List ℕ). Posts (w ++ p .rest) a (p .tree (star a))) (sym (then-more s at n 42 (omega arith) (p .within) e refl)) (starred (p .viable (star a)));
     dies = λ q k d a. ap (run k (after d a)) (then-more s at (n + 1) 42 (omega arith) (omega arith) e refl) ∙ p .dies q k d (star a);
-    short = λ k d a. ap (λ (w : List ℕ). done (run k (after d a) w)) (then-more s at n 42 (omega arith) (p .within) e refl) ∙ p .short k d (star a)
-    }
+    short = λ k d a. ap (λ (w : List ℕ). done (run k (after d a) w)) (then-more s at n 42 (omega arith) (p .within) e refl) ∙ p .short k d (star a);
+  }
 
 -- a weight mark
 module _ (s : List ℕ) (at n w : ℕ) (m : Marked s at n w) where
@@ -116,15 +130,21 @@ module _ (s : List ℕ) (at n w : ℕ) (m : Marked s at n w) where
   pub mark-done : (e : ℕ) {turn : Pat → Pat} → PostsDone s n e turn → PostsDone s at e (λ a. turn (charge w a))
   unfolding stepsOf nestingOf
   mark-done e {turn} p = record {
-    past = omega arith; within = p .within;
+    past = omega arith;
+    within = p .within;
     derives = λ a. subst (λ (v : List ℕ). Posts v a (turn (charge w a))) (slice-join at n e s (omega arith) (p .past)) (m .joins (p .derives (charge w a)));
-    counts = λ a. p .counts (charge w a); level = λ a. p .level (charge w a); stops = p .stops
-    }
+    counts = λ a. p .counts (charge w a);
+    level = λ a. p .level (charge w a);
+    stops = p .stops;
+  }
 
   pub mark-then-stuck : (e : ℕ) → PostsStuck s n e → PostsStuck s at e
   mark-then-stuck e p = record {
-    from = omega arith; within = p .within; rest = p .rest; tree = λ a. p .tree (charge w a);
+    from = omega arith;
+    within = p .within;
+    rest = p .rest;
+    tree = λ a. p .tree (charge w a);
     viable = λ a. subst (λ (v : List ℕ). Posts v a (p .tree (charge w a))) (join-rest at n e s (p .rest) (omega arith) (p .from)) (m .joins (p .viable (charge w a)));
     dies = λ q k d a. past-mark k d a (e + 1) (omega arith) ∙ p .dies q k d (charge w a);
-    short = λ k d a. ap done (past-mark k d a e (p .from)) ∙ p .short k d (charge w a)
-    }
+    short = λ k d a. ap done (past-mark k d a e (p .from)) ∙ p .short k d (charge w a);
+  }

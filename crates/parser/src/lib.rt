@@ -6,21 +6,42 @@ ghost use mathlib.Core.Path.{_≡_};
 ghost use Prim.Native.Nat.{_+_, _≤_, _<_, max};
 ghost use lib.ListN.{length, getD};
 ghost use Rattle.pattern.specs.Bytes.{shown};
+ghost use Rattle.pattern.specs.Grammar.{Pattern, Term, Factor, Atom};
 ghost use Rattle.pattern.specs.Machine.{starts, digit};
-ghost use Rattle.parser.specs.Result.{Opens, Marks};
+ghost use Rattle.pattern.specs.Found.{AtomStop, FactorStop, TermStop, PatternStop};
+ghost use Rattle.parser.specs.Result.{Opens, Marks, Posted, Parses, Answers};
+ghost use Rattle.parser.specs.Grown.{Stepped, Entered, Left};
 
 // A part of the text: the place after it, its steps, its nesting, and what is charged where it takes no step (the mark: it takes one).
 pub enum Parsed {
-    Good { next: usize, steps: usize, deep: usize, nul: u32 },
-    Bad { place: usize },
+    Good {
+        next: usize,
+        steps: usize,
+        deep: usize,
+        nul: u32,
+    },
+    Bad {
+        place: usize,
+    },
 }
 
 // What the first bytes of an atom are. A group opens variable 0.
 pub enum Head {
-    Byte { next: usize, argument: u32 },
-    Empty { next: usize },
-    Open { inside: usize, close: u8, variable: u32 },
-    Wrong { place: usize },
+    Byte {
+        next: usize,
+        argument: u32,
+    },
+    Empty {
+        next: usize,
+    },
+    Open {
+        inside: usize,
+        close: u8,
+        variable: u32,
+    },
+    Wrong {
+        place: usize,
+    },
 }
 
 // Past the end as if a byte 0 stood there, which stands nowhere in a pattern.
@@ -62,7 +83,10 @@ fn escape(text: &[u8], at: usize, k: u32) -> Head
     let second = at + 1;
     let b = byte_at(text, second);
     if printable(b) {
-        Head::Byte { next: second + 1, argument: b as u32 * 256 + b as u32 }
+        Head::Byte {
+            next: second + 1,
+            argument: b as u32 * 256 + b as u32,
+        }
     } else {
         Head::Wrong { place: second }
     }
@@ -94,7 +118,10 @@ fn ranged(text: &[u8], at: usize, k: u32) -> Head
     if byte_at(text, end) != b']' {
         return Head::Wrong { place: end };
     }
-    Head::Byte { next: end + 1, argument: lo as u32 * 256 + hi as u32 }
+    Head::Byte {
+        next: end + 1,
+        argument: lo as u32 * 256 + hi as u32,
+    }
 }
 
 // At a `{`, where there is a variable.
@@ -115,7 +142,11 @@ fn captured(text: &[u8], at: usize, k: u32) -> Head
     if byte_at(text, colon) != b':' {
         return Head::Wrong { place: colon };
     }
-    Head::Open { inside: colon + 1, close: b'}', variable }
+    Head::Open {
+        inside: colon + 1,
+        close: b'}',
+        variable,
+    }
 }
 
 fn opening(text: &[u8], at: usize, k: u32) -> Head
@@ -124,14 +155,24 @@ fn opening(text: &[u8], at: usize, k: u32) -> Head
 {
     let b = byte_at(text, at);
     match pattern::class_of(b) {
-        Class::Plain => Head::Byte { next: at + 1, argument: b as u32 * 256 + b as u32 },
+        Class::Plain => Head::Byte {
+            next: at + 1,
+            argument: b as u32 * 256 + b as u32,
+        },
         Class::Illegal => Head::Wrong { place: at },
         Class::Reserved => match b {
             b'\\' => escape(text, at, k),
-            b'.' => Head::Byte { next: at + 1, argument: 255 },
+            b'.' => Head::Byte {
+                next: at + 1,
+                argument: 255,
+            },
             b'~' => Head::Empty { next: at + 1 },
             b'[' => ranged(text, at, k),
-            b'(' => Head::Open { inside: at + 1, close: b')', variable: 0 },
+            b'(' => Head::Open {
+                inside: at + 1,
+                close: b')',
+                variable: 0,
+            },
             b'{' => {
                 if k == 0 {
                     Head::Wrong { place: at }
@@ -180,5 +221,288 @@ fn mark(text: &[u8], at: usize) -> Parsed
         return Parsed::Bad { place: three };
     }
     let weight = (x - b'0') as u32 * 100 + (y - b'0') as u32 * 10 + (z - b'0') as u32;
-    Parsed::Good { next: three + 1, steps: 0, deep: 0, nul: weight }
+    Parsed::Good {
+        next: three + 1,
+        steps: 0,
+        deep: 0,
+        nul: weight,
+    }
+}
+
+// Step o, where there is room for it: its arcs and its label. It is charged by none but what stands around it.
+fn step(cells: &mut [u32], labels: &mut [u32], o: usize, kind: u32, argument: u32) -> u32
+    requires { ⌜ (1024 ≤ length (now cells)) × (64 ≤ length (now labels)) ⌝ }
+    ensures { λ r. ⌜ Stepped o kind argument (now (cells .entry)) (now (cells .exit)) (now (labels .entry)) (now (labels .exit)) r ⌝ }
+{
+    if o < 31 {
+        labels[2 * o] = kind;
+        labels[2 * o + 1] = argument;
+        return grid::leaf(cells, o);
+    }
+    4294967295
+}
+
+// The step of a `{`, and how many that is; a `(`, variable 0, has none.
+fn enter(cells: &mut [u32], labels: &mut [u32], o: usize, variable: u32) -> usize
+    requires { ⌜ (1024 ≤ length (now cells)) × (64 ≤ length (now labels)) ⌝ }
+    ensures { λ r. ⌜ Entered o variable (now (cells .entry)) (now (cells .exit)) (now (labels .entry)) (now (labels .exit)) r ⌝ }
+{
+    if variable == 0 {
+        return 0;
+    }
+    step(cells, labels, o, 1, variable);
+    1
+}
+
+// The step of a `}`, and the inside joined between the two.
+fn leave(
+    cells: &mut [u32],
+    labels: &mut [u32],
+    o: usize,
+    variable: u32,
+    steps: usize,
+    nul: u32,
+) -> u32
+    requires { ⌜ (o + steps ≤ 255) × (1024 ≤ length (now cells)) × (64 ≤ length (now labels)) ⌝ }
+    ensures { λ r. ⌜ Left o variable steps nul (now (cells .entry)) (now (cells .exit)) (now (labels .entry)) (now (labels .exit)) r ⌝ }
+{
+    if variable == 0 {
+        return nul;
+    }
+    let mid = o + 1;
+    let end = mid + steps;
+    let shut = step(cells, labels, end, 2, variable);
+    let inner = grid::join(cells, mid, end, nul, shut);
+    grid::join(cells, o, mid, 4294967295, inner)
+}
+
+// The postfixes that stand from at on, put on the part of the steps after o up to mid.
+fn postfixes(text: &[u8], at: usize, cells: &mut [u32], o: usize, mid: usize, nul: u32) -> Parsed
+    requires { ⌜ (length (now text) ≤ 255) × (at ≤ length (now text)) × (1024 ≤ length (now cells)) ⌝ }
+    ensures { λ r. ⌜ Posted (now (text .entry)) at o mid nul (now (cells .entry)) (now (cells .exit)) r ⌝ }
+{
+    let b = byte_at(text, at);
+    if b == b'*' {
+        let passes = grid::again(cells, o);
+        return postfixes(text, at + 1, cells, o, mid, passes);
+    }
+    if b == b'#' {
+        return match mark(text, at) {
+            Parsed::Bad { place } => Parsed::Bad { place },
+            Parsed::Good {
+                next,
+                steps: _,
+                deep: _,
+                nul: weight,
+            } => {
+                let charged = grid::join(cells, o, mid, nul, weight);
+                postfixes(text, next, cells, o, mid, charged)
+            }
+        };
+    }
+    Parsed::Good {
+        next: at,
+        steps: 0,
+        deep: 0,
+        nul,
+    }
+}
+
+fn atom(text: &[u8], at: usize, k: u32, cells: &mut [u32], labels: &mut [u32], o: usize) -> Parsed
+    requires { ⌜ (length (now text) ≤ 255) × (at ≤ length (now text)) × (o ≤ at) × (1024 ≤ length (now cells)) × (64 ≤ length (now labels)) ⌝ }
+    ensures { λ r. ⌜ Parses Atom AtomStop k (now (text .entry)) at o (now (cells .entry)) (now (cells .exit)) (now (labels .entry)) (now (labels .exit)) r ⌝ }
+{
+    match opening(text, at, k) {
+        Head::Wrong { place } => Parsed::Bad { place },
+        Head::Empty { next } => Parsed::Good {
+            next,
+            steps: 0,
+            deep: 0,
+            nul: 0,
+        },
+        Head::Byte { next, argument } => {
+            let nul = step(cells, labels, o, 0, argument);
+            Parsed::Good {
+                next,
+                steps: 1,
+                deep: 0,
+                nul,
+            }
+        }
+        Head::Open {
+            inside,
+            close,
+            variable,
+        } => {
+            let own = enter(cells, labels, o, variable);
+            match pattern(text, inside, k, cells, labels, o + own) {
+                Parsed::Bad { place } => Parsed::Bad { place },
+                Parsed::Good {
+                    next,
+                    steps,
+                    deep,
+                    nul,
+                } => {
+                    if byte_at(text, next) == close {
+                        let whole = leave(cells, labels, o, variable, steps, nul);
+                        Parsed::Good {
+                            next: next + 1,
+                            steps: own + steps + own,
+                            deep: 1 + deep,
+                            nul: whole,
+                        }
+                    } else {
+                        Parsed::Bad { place: next }
+                    }
+                }
+            }
+        }
+    }
+}
+
+fn factor(text: &[u8], at: usize, k: u32, cells: &mut [u32], labels: &mut [u32], o: usize) -> Parsed
+    requires { ⌜ (length (now text) ≤ 255) × (at ≤ length (now text)) × (o ≤ at) × (1024 ≤ length (now cells)) × (64 ≤ length (now labels)) ⌝ }
+    ensures { λ r. ⌜ Parses Factor FactorStop k (now (text .entry)) at o (now (cells .entry)) (now (cells .exit)) (now (labels .entry)) (now (labels .exit)) r ⌝ }
+{
+    match atom(text, at, k, cells, labels, o) {
+        Parsed::Bad { place } => Parsed::Bad { place },
+        Parsed::Good {
+            next,
+            steps,
+            deep,
+            nul,
+        } => match postfixes(text, next, cells, o, o + steps, nul) {
+            Parsed::Bad { place } => Parsed::Bad { place },
+            Parsed::Good {
+                next: end,
+                steps: _,
+                deep: _,
+                nul: last,
+            } => Parsed::Good {
+                next: end,
+                steps,
+                deep,
+                nul: last,
+            },
+        },
+    }
+}
+
+fn term(text: &[u8], at: usize, k: u32, cells: &mut [u32], labels: &mut [u32], o: usize) -> Parsed
+    requires { ⌜ (length (now text) ≤ 255) × (at ≤ length (now text)) × (o ≤ at) × (1024 ≤ length (now cells)) × (64 ≤ length (now labels)) ⌝ }
+    ensures { λ r. ⌜ Parses Term TermStop k (now (text .entry)) at o (now (cells .entry)) (now (cells .exit)) (now (labels .entry)) (now (labels .exit)) r ⌝ }
+{
+    match factor(text, at, k, cells, labels, o) {
+        Parsed::Bad { place } => Parsed::Bad { place },
+        Parsed::Good {
+            next,
+            steps,
+            deep,
+            nul,
+        } => {
+            if begins(byte_at(text, next), k) {
+                match term(text, next, k, cells, labels, o + steps) {
+                    Parsed::Bad { place } => Parsed::Bad { place },
+                    Parsed::Good {
+                        next: end,
+                        steps: more,
+                        deep: other,
+                        nul: last,
+                    } => {
+                        let both = grid::join(cells, o, o + steps, nul, last);
+                        Parsed::Good {
+                            next: end,
+                            steps: steps + more,
+                            deep: larger(deep, other),
+                            nul: both,
+                        }
+                    }
+                }
+            } else {
+                Parsed::Good {
+                    next,
+                    steps,
+                    deep,
+                    nul,
+                }
+            }
+        }
+    }
+}
+
+fn pattern(
+    text: &[u8],
+    at: usize,
+    k: u32,
+    cells: &mut [u32],
+    labels: &mut [u32],
+    o: usize,
+) -> Parsed
+    requires { ⌜ (length (now text) ≤ 255) × (at ≤ length (now text)) × (o ≤ at) × (1024 ≤ length (now cells)) × (64 ≤ length (now labels)) ⌝ }
+    ensures { λ r. ⌜ Parses Pattern PatternStop k (now (text .entry)) at o (now (cells .entry)) (now (cells .exit)) (now (labels .entry)) (now (labels .exit)) r ⌝ }
+{
+    match term(text, at, k, cells, labels, o) {
+        Parsed::Bad { place } => Parsed::Bad { place },
+        Parsed::Good {
+            next,
+            steps,
+            deep,
+            nul,
+        } => {
+            if byte_at(text, next) == b'|' {
+                match pattern(text, next + 1, k, cells, labels, o + steps) {
+                    Parsed::Bad { place } => Parsed::Bad { place },
+                    Parsed::Good {
+                        next: end,
+                        steps: more,
+                        deep: other,
+                        nul: last,
+                    } => {
+                        let either = grid::lighter(nul, last);
+                        Parsed::Good {
+                            next: end,
+                            steps: steps + more,
+                            deep: larger(deep, other),
+                            nul: either,
+                        }
+                    }
+                }
+            } else {
+                Parsed::Good {
+                    next,
+                    steps,
+                    deep,
+                    nul,
+                }
+            }
+        }
+    }
+}
+
+// The whole text: a pattern and nothing after it, or number 3 and its place.
+pub fn parse(text: &[u8], k: u32, cells: &mut [u32], labels: &mut [u32]) -> Parsed
+    requires { ⌜ (length (now text) ≤ 255) × (1024 ≤ length (now cells)) × (64 ≤ length (now labels)) ⌝ }
+    ensures { λ r. ⌜ Answers k (now (text .entry)) (now (cells .exit)) (now (labels .exit)) r ⌝ }
+{
+    grid::clear(cells);
+    match pattern(text, 0, k, cells, labels, 0) {
+        Parsed::Bad { place } => Parsed::Bad { place },
+        Parsed::Good {
+            next,
+            steps,
+            deep,
+            nul,
+        } => {
+            if next < text.len() {
+                Parsed::Bad { place: next }
+            } else {
+                Parsed::Good {
+                    next,
+                    steps,
+                    deep,
+                    nul,
+                }
+            }
+        }
+    }
 }

@@ -9,9 +9,6 @@ use Rattle.parser.proofs.Cases.{reserved, refuted}
 use borrow.Author.Needs.{needs}
 use Rattle.parser.proofs.begins.Statement.{statement}
 use Rattle.parser.proofs.begins.Tie as tie
-use Rattle.parser.proofs.begins.Reads as reads
-use Rattle.parser.proofs.begins.Lts as lts
-use Rattle.pattern.proofs.class_of.Reads as class-of-reads
 
 two : (b : ℕ) → 91 ≤ b → b < 93 → (b ≡ 91) ⊎ (b ≡ 92)
 two b l h = ⊎-elim (λ (e : 91 ≡ b). inl (sym e)) (λ (g : 91 < b). inr (omega arith)) (eq-or-lt-of-le l)

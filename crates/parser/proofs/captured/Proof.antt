@@ -7,9 +7,6 @@ use Rattle.parser.proofs.Leaves.{capture-1, capture-2, capture-3}
 use borrow.Author.Needs.{needs}
 use Rattle.parser.proofs.captured.Statement.{statement}
 use Rattle.parser.proofs.captured.Tie as tie
-use Rattle.parser.proofs.captured.Reads as reads
-use Rattle.parser.proofs.captured.Lts as lts
-use Rattle.parser.proofs.byte_at.Reads as byte-at-reads
 
 add-which : tie.Need-add-which
 add-which c = search needs

@@ -2,8 +2,6 @@
 use borrow.Author.Tests.{le-leb, lt-leb}
 use Rattle.parser.proofs.decimal.Statement.{statement}
 use Rattle.parser.proofs.decimal.Tie as tie
-use Rattle.parser.proofs.decimal.Reads as reads
-use Rattle.parser.proofs.decimal.Lts as lts
 
 returns : tie.Need-returns
 returns c = rw (lt-leb 48 (c .before .args .b) (c .if1 .taken))

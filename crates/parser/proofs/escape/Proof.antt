@@ -8,10 +8,6 @@ use Rattle.parser.proofs.Leaves.{esc-stuck, esc-done}
 use borrow.Author.Needs.{needs}
 use Rattle.parser.proofs.escape.Statement.{statement}
 use Rattle.parser.proofs.escape.Tie as tie
-use Rattle.parser.proofs.escape.Reads as reads
-use Rattle.parser.proofs.escape.Lts as lts
-use Rattle.parser.proofs.byte_at.Reads as byte-at-reads
-use Rattle.parser.proofs.printable.Reads as printable-reads
 
 add-second : tie.Need-add-second
 add-second c = search needs

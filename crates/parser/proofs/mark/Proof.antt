@@ -10,10 +10,6 @@ use Rattle.parser.proofs.Marks.{mark-1, mark-2, mark-3, mark-4, charged
 use borrow.Author.Needs.{needs}
 use Rattle.parser.proofs.mark.Statement.{statement}
 use Rattle.parser.proofs.mark.Tie as tie
-use Rattle.parser.proofs.mark.Reads as reads
-use Rattle.parser.proofs.mark.Lts as lts
-use Rattle.parser.proofs.byte_at.Reads as byte-at-reads
-use Rattle.parser.proofs.decimal.Reads as decimal-reads
 
 add-one : tie.Need-add-one
 add-one c = search needs

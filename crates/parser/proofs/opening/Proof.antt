@@ -10,13 +10,6 @@ use Rattle.parser.proofs.Leaves.{none-stuck, plain-done, any-done, empt
 use borrow.Author.Needs.{needs}
 use Rattle.parser.proofs.opening.Statement.{statement}
 use Rattle.parser.proofs.opening.Tie as tie
-use Rattle.parser.proofs.opening.Reads as reads
-use Rattle.parser.proofs.opening.Lts as lts
-use Rattle.parser.proofs.byte_at.Reads as byte-at-reads
-use Rattle.parser.proofs.captured.Reads as captured-reads
-use Rattle.parser.proofs.escape.Reads as escape-reads
-use Rattle.parser.proofs.ranged.Reads as ranged-reads
-use Rattle.pattern.proofs.class_of.Reads as class-of-reads
 
 byte-at-requires : tie.Need-byte-at-requires
 byte-at-requires c κs = search needs

@@ -2,8 +2,6 @@
 use borrow.Author.Tests.{le-leb, lt-leb}
 use Rattle.parser.proofs.printable.Statement.{statement}
 use Rattle.parser.proofs.printable.Tie as tie
-use Rattle.parser.proofs.printable.Reads as reads
-use Rattle.parser.proofs.printable.Lts as lts
 
 returns : tie.Need-returns
 returns c = rw (lt-leb 0x20 (c .before .args .b) (c .if1 .taken))

@@ -9,10 +9,6 @@ use Rattle.parser.proofs.Leaves.{range-1, range-2, range-3, range-4, ra
 use borrow.Author.Needs.{needs}
 use Rattle.parser.proofs.ranged.Statement.{statement}
 use Rattle.parser.proofs.ranged.Tie as tie
-use Rattle.parser.proofs.ranged.Reads as reads
-use Rattle.parser.proofs.ranged.Lts as lts
-use Rattle.parser.proofs.byte_at.Reads as byte-at-reads
-use Rattle.parser.proofs.printable.Reads as printable-reads
 
 add-low : tie.Need-add-low
 add-low c = search needs
