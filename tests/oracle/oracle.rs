@@ -7,7 +7,8 @@
 //                                             Answered on one line: weight of the set | best
 //
 // Without --fast all derivations and runs are enumerated, and a text and its table are
-// held to agree on every set; an input too large for that ends with status 3.
+// held to agree on every set; an input too large for that ends with status 3, a test of a
+// table with the answer `too large`.
 #[path = "lib.rs"]
 mod oracle;
 
@@ -33,7 +34,7 @@ fn run() {
     let output = match args.iter().map(String::as_str).collect::<Vec<_>>()[..] {
         ["reading"] => reading(way, &input),
         ["compile", k, room] => compile_answer(way, k.parse().unwrap(), room.parse().unwrap(), &input),
-        ["table"] => tables(way, std::str::from_utf8(&input).unwrap()),
+        ["table"] => Ok(tables(way, std::str::from_utf8(&input).unwrap()).into_bytes()),
         _ => panic!("reading | compile K ROOM | table, and --fast; see the top of oracle.rs"),
     };
     match output {
@@ -53,14 +54,17 @@ fn compile_answer(way: Way, k: u64, room: u64, text: &[u8]) -> Result<Vec<u8>, T
     .into_bytes())
 }
 
-fn tables(way: Way, tests: &str) -> Result<Vec<u8>, TooLarge> {
+fn tables(way: Way, tests: &str) -> String {
     let lines: Vec<&str> = tests.lines().collect();
     let mut out = String::new();
     for test in lines.chunks(3) {
         let set: Spans = numbers(test[2]).try_into().expect("six numbers");
-        out += &table_answer(way, &numbers(test[0]), &bytes(test[1]), &set)?;
+        match table_answer(way, &numbers(test[0]), &bytes(test[1]), &set) {
+            Ok(answer) => out += &answer,
+            Err(TooLarge) => out += "too large\n",
+        }
     }
-    Ok(out.into_bytes())
+    out
 }
 
 fn table_answer(way: Way, words: &[u64], line: &[u8], set: &Spans) -> Result<String, TooLarge> {

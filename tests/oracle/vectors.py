@@ -7,7 +7,7 @@ TOO_LARGE = 3
 def ask(command, data):
     """What the command writes, or None where the oracle says that it cannot enumerate."""
     run = subprocess.run(command, input=data, stdout=subprocess.PIPE, stderr=subprocess.DEVNULL)
-    if run.returncode == TOO_LARGE:
+    if run.returncode == TOO_LARGE or run.stdout == b"too large\n":
         return None
     return run.stdout if run.returncode == 0 else b"status %d" % run.returncode
 
