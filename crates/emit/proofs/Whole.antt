@@ -1,13 +1,13 @@
 -- The three parts of a table, written one after another, are the table.
-use mathlib.Core.Path.{_≡_, refl, sym, ap, ap₂, _∙_}
+use mathlib.Core.Path.{_≡_, refl, sym, ap, _∙_}
 use mathlib.Core.List.{List, [], _∷_, _++_}
-use Prim.Native.Nat.{ℕ, zero, suc, _+_, _*_, _≤_, _<_}
+use Prim.Native.Nat.{ℕ, suc, _+_, _*_, _≤_, _<_}
 use native.Mathlib.Omega.{arith}
 use lib.ListN.{length, drop}
-use lib.Seq.{sets, sets-eq}
+use lib.Seq.{sets-eq}
 use Rattle.marks.specs.Labels.{Label}
 use Rattle.layout.specs.Gather.{gather-same}
-use Rattle.layout.specs.Words.{arrow, rowsOf, endsOf, spread, wordsOf, spread-length, wordsOf-length}
+use Rattle.layout.specs.Words.{arrow, rowsOf, endsOf, wordsOf, spread-length, wordsOf-length}
 use Rattle.emit.specs.declared.Emitted.the-variants.{Written, Short}
 use Rattle.emit.specs.Cells.{cellAt, arcsIn, labelsIn, tableIn, Emits, written, short}
 use Rattle.emit.specs.Wrote.{rowWords, Wrote, wrote-more, rows-words}

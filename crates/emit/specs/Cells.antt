@@ -6,7 +6,7 @@
 -- tableIn             the words of the table that they make
 -- Emits ws old r new  r says that ws are written: at the exit the room is ws and, after them, the words that stood there at the entry;
 --                     or that the room is shorter than ws, and how long they are: then the room is as it was
-use mathlib.Core.Path.{_≡_, refl, sym, ap, _∙_}
+use mathlib.Core.Path.{_≡_}
 use mathlib.Core.Bool.{cond}
 use mathlib.Core.List.{List, _++_}
 use Prim.Native.Nat.{ℕ, zero, suc, _+_, _*_, _≤_, _<_}

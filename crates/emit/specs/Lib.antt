@@ -1,3 +1,4 @@
 pub mod Cells
 pub mod Wrote
 pub mod One
+pub mod Compiled

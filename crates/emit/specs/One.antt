@@ -1,7 +1,7 @@
 -- Two results of `emit` for one table and one room are equal, and leave the room the same.
-use mathlib.Core.Path.{_≡_, refl, sym, ap, _∙_}
+use mathlib.Core.Path.{_≡_, sym, ap, _∙_}
 use mathlib.Core.List.{List}
-use Prim.Native.Nat.{ℕ, _≤_, _<_}
+use Prim.Native.Nat.{ℕ}
 use native.Mathlib.Omega.{arith}
 use Rattle.emit.specs.declared.Emitted.{Emitted}
 use Rattle.emit.specs.declared.Emitted.the-variants.{Written, Short}

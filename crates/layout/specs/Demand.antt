@@ -1,14 +1,14 @@
 -- DEMAND 3. For every line and every set, the table that a text is compiled to gives the weight that the text gives, the mark included.
 --
 -- table-text          the weight of a set by the compiled table is the weight of the text, whatever words stand after the table
-use mathlib.Core.Path.{_≡_, refl, sym, ap, ap₂, _∙_}
-use mathlib.Core.Bool.{Bool, true, false, cond, _&&_}
+use mathlib.Core.Path.{_≡_, refl, sym, ap, _∙_}
+use mathlib.Core.Bool.{cond}
 use mathlib.Core.List.{List, [], _∷_, _++_, map}
-use Prim.Native.Nat.{ℕ, zero, suc, _+_, _*_, _≤_, _<_, min}
+use Prim.Native.Nat.{ℕ, zero, suc, _+_, _≤_, _<_, min}
 use native.Mathlib.Omega.{arith}
 use native.Mathlib.Decide.{decLt, ℕ-discrete}
 use lib.Dec.{eqb}
-use lib.ListN.{length, getD}
+use lib.ListN.{length}
 use borrow.Author.Tests.{eq-eqb, ne-eqb}
 use Rattle.basics.specs.Every.{and-true}
 use Rattle.basics.specs.Lists.{All}
@@ -16,17 +16,17 @@ use Rattle.basics.specs.Members.{In, first, later, AllIn}
 use Rattle.weight.specs.Weight.{mark, jointTo, Least}
 use Rattle.weight.specs.Tropical.{tropical}
 use Rattle.spans.specs.declared.Spans.{Spans}
-use Rattle.marks.specs.Labels.{Label, spells, valid, marked}
+use Rattle.marks.specs.Labels.{Label, spells, valid}
 use Rattle.table.specs.declared.Row.{Row}
-use Rattle.table.specs.Table.{RightTable, Automaton, automatonOf, labelOf, rowsFrom}
-use Rattle.runs.specs.Runs.{Run, nthRow, labels, chain, weightOf, validRun, weightOfSet}
+use Rattle.table.specs.Table.{Automaton, automatonOf, labelOf}
+use Rattle.runs.specs.Runs.{nthRow, labels, chain, weightOf, validRun, weightOfSet}
 use Rattle.runs.specs.Rows.{start-first, start-other}
 use Rattle.runs.specs.Marking.{Marking}
 use Rattle.runs.specs.Least.{rows-in, weight-least}
 use Rattle.pattern.specs.Grammar.{Pat, Pattern, stepsOf}
-use Rattle.pattern.specs.Derivations.{labelsOf, nthLabel, Item, Der, steps, charges, labelsIn, Gives, WeightOfText}
+use Rattle.pattern.specs.Derivations.{labelsOf, nthLabel, steps, labelsIn, Gives, WeightOfText}
 use Rattle.arcs.specs.Arcs.{path, Open}
-use Rattle.arcs.specs.Exact.{arcOf, arc-inside, Along, trace-open, trace-low, word-trace}
+use Rattle.arcs.specs.Exact.{arcOf, arc-inside, trace-open, trace-low, word-trace}
 use Rattle.layout.specs.Words.{rowOf, rowsOf, wordsOf, tableWords, Said, said, in-rows, end-at, rows-at}
 use Rattle.layout.specs.Right.{right}
 

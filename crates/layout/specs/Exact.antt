@@ -1,13 +1,16 @@
 -- The words of the least arcs are the exact table, and the exact table is one table.
+--
+-- exact-of            of any arcs that are the least totals of a tree
+-- exact               of a text's arcs: for every text of at most 255 bytes
+-- table-one           two tables of one tree are equal
 use mathlib.Core.Path.{_≡_, refl, sym, ap, ap₂, _∙_}
 use mathlib.Core.Logic.{_⊎_, inl, inr}
 use mathlib.Core.Bool.{Bool, true, false, cond}
 use mathlib.Core.List.{List, [], _∷_, _++_, append-nil}
-use Prim.Native.Nat.{ℕ, zero, suc, _+_, _*_, _-_, _≤_, _<_}
+use Prim.Native.Nat.{ℕ, zero, suc, _+_, _-_, _≤_, _<_}
 use native.Mathlib.Omega.{arith}
-use native.Mathlib.Decide.{decLt, ℕ-discrete}
 use lib.Dec.{ltb}
-use lib.ListN.{length, getD, take, drop, length-take, take-append-drop}
+use lib.ListN.{length, getD, take, take-append-drop}
 use lib.Seq.{getD-take, ext-getD, length-take-le}
 use Rattle.basics.specs.Lists.{All}
 use Rattle.basics.specs.Members.{In, first, later, none-in, lone-in, cons-in, all-in, append-in}
@@ -20,7 +23,7 @@ use Rattle.table.specs.Rows.{rows-length}
 use Rattle.pattern.specs.Grammar.{Pat, Pattern, stepsOf}
 use Rattle.pattern.specs.Derivations.{labelsOf, nthLabel, Follows}
 use Rattle.arcs.specs.Exact.{arcOf, layout, present, arc-inside}
-use Rattle.layout.specs.Gather.{gather, From, in-all, gather-in}
+use Rattle.layout.specs.Gather.{gather, in-all, gather-in}
 use Rattle.layout.specs.Layout.{RowOf, Before, Rising, rowsIn, Joins, TableOf}
 use Rattle.layout.specs.Words.{rowOf, arrow, rowsFor, rowsOf, wordsOf, spread, tableWords, spread-back, Said, said, in-rows, wordsOf-length, end-at, rows-at}
 

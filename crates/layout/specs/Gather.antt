@@ -3,7 +3,7 @@
 -- gather f n          what f gives at each number below n, one after another
 -- in-all              what holds of each element holds of all
 -- gather-same         two that give the same below n are gathered to the same
-use mathlib.Core.Path.{_≡_, refl, sym, ap, ap₂, _∙_}
+use mathlib.Core.Path.{_≡_, refl, ap₂}
 use mathlib.Core.Logic.{_⊎_, inl, inr}
 use mathlib.Core.List.{List, [], _∷_, _++_, append-assoc}
 use Prim.Native.Nat.{ℕ, zero, suc, _+_, _*_, _≤_, _<_}
@@ -12,7 +12,7 @@ use native.Mathlib.Decide.{ℕ-discrete}
 use lib.ListN.{length, getD, length-append}
 use lib.Seq.{getD-at}
 use Rattle.basics.specs.Lists.{All}
-use Rattle.basics.specs.Members.{In, first, later, none-in, cons-in, append-in, in-append-left, in-append-right}
+use Rattle.basics.specs.Members.{In, first, later, none-in, append-in, in-append-left, in-append-right}
 
 unfoldable pub gather : {R : Type 0} → (ℕ → List R) → ℕ → List R
 gather f zero = []

@@ -2,28 +2,26 @@
 --
 -- labels-right        what the steps of a text do is of the forms that a row may have
 -- right               no compiled table is number 7
-use mathlib.Core.Path.{_≡_, refl, sym, ap, _∙_}
-use mathlib.Core.Logic.{_⊎_, inl, inr}
-use mathlib.Core.Bool.{Bool, true, false, cond, _&&_}
+use mathlib.Core.Path.{_≡_, refl}
+use mathlib.Core.Logic.{inl, inr}
+use mathlib.Core.Bool.{Bool, true, false, cond}
 use mathlib.Core.List.{List, [], _∷_, _++_}
-use Prim.Native.Nat.{ℕ, zero, suc, _+_, _*_, _-_, _/_, _%_, _≤_, _<_}
+use Prim.Native.Nat.{ℕ, zero, suc, _+_, _*_, _-_, _≤_, _<_}
 use native.Mathlib.Omega.{arith}
 use native.Mathlib.Decide.{decLt}
 use lib.Dec.{leb}
-use lib.ListN.{length, getD, length-append}
+use lib.ListN.{length, length-append}
 use borrow.Author.Tests.{leb-true}
-use Rattle.basics.specs.Every.{and-true, every, every-at}
+use Rattle.basics.specs.Every.{and-true, every-at}
 use Rattle.basics.specs.Lists.{All}
-use Rattle.basics.specs.Members.{all-in}
-use Rattle.weight.specs.Weight.{mark, Least}
-use Rattle.marks.specs.Labels.{Label, RightLabel, byte, opens, closes}
+use Rattle.weight.specs.Weight.{mark}
+use Rattle.marks.specs.Labels.{Label, byte, opens, closes}
 use Rattle.setting.specs.Settled.{Right}
 use Rattle.table.specs.declared.Row.{Row}
 use Rattle.table.specs.Table.{rowAt, rowsFrom, RightRow, RightEnd, RightTable, mostWeight}
-use Rattle.pattern.specs.declared.Class.{Class}
 use Rattle.pattern.specs.declared.Class.the-variants.{Plain, Reserved, Illegal}
-use Rattle.pattern.specs.Bytes.{twelve, among, shown, classOf, Shown}
-use Rattle.pattern.specs.Grammar.{Pat, reads, nothing, alt, cat, star, charge, capture, grouped, stepsOf, Posts, none, starred, marked, Pattern, lone, either, Term, last, thence, Factor, with, Atom, plain, escaped, any, range, empty, group, named}
+use Rattle.pattern.specs.Bytes.{twelve, among, shown, classOf}
+use Rattle.pattern.specs.Grammar.{Pat, reads, nothing, alt, cat, star, charge, capture, grouped, stepsOf, Posts, none, starred, marked, Pattern, lone, either, last, thence, with, plain, escaped, any, range, empty, group, named}
 use Rattle.pattern.specs.Derivations.{labelsOf, nthLabel}
 use Rattle.arcs.specs.Exact.{arcOf, layout, weights}
 use Rattle.layout.specs.Gather.{in-all}

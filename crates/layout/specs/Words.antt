@@ -6,6 +6,9 @@
 -- spread rs           the words of rows, five for each
 -- wordsOf A L K m     the words of the table with K variables
 -- tableWords K a      the words of the table of the tree a
+-- said, in-rows       a row is one of these exactly where there is an arc
+-- end-at, rows-at     the end words and the rows, read back from the words
+-- words-same          arcs and labels that are the same make the same words
 use mathlib.Core.Path.{_≡_, refl, sym, ap, ap₂, _∙_}
 use mathlib.Core.Bool.{Bool, true, false, cond}
 use mathlib.Core.List.{List, [], _∷_, _++_, append-assoc}
@@ -15,7 +18,7 @@ use lib.Dec.{ltb}
 use lib.ListN.{length, getD, drop, length-append, drop-of-length-le}
 use lib.Seq.{getD-drop, drop-drop, drop-at, drop-cons}
 use borrow.Author.Tests.{lt-ltb, ltb-true}
-use Rattle.basics.specs.Members.{In, first, later, none-in, lone-in}
+use Rattle.basics.specs.Members.{In, first, none-in, lone-in}
 use Rattle.weight.specs.Weight.{mark}
 use Rattle.marks.specs.Labels.{Label}
 use Rattle.table.specs.declared.Row.{Row}
@@ -23,7 +26,7 @@ use Rattle.table.specs.Table.{rowAt, rowsFrom}
 use Rattle.pattern.specs.Grammar.{Pat, stepsOf}
 use Rattle.pattern.specs.Derivations.{labelsOf, nthLabel}
 use Rattle.arcs.specs.Exact.{arcOf}
-use Rattle.layout.specs.Gather.{gather, From, in-gather, gather-in, gather-same, gather-few, ones-length, ones-at}
+use Rattle.layout.specs.Gather.{gather, in-gather, gather-in, gather-same, gather-few, ones-length, ones-at}
 
 abbrev pub rowOf : (ℕ → ℕ → ℕ) → (ℕ → Label) → ℕ → ℕ → Row
 rowOf A L x p = record { from = x; to = suc p; kind = L p .kind; argument = L p .argument; weight = A x (suc p) }

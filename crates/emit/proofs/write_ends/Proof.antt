@@ -1,12 +1,12 @@
 -- `write_ends` meets its contract. The invariant: the end words of the states before x are written.
 use mathlib.Core.Path.{_≡_, refl}
-use Prim.Native.Nat.{ℕ, zero, suc, _+_, _*_, _-_, _≤_, _<_}
+use Prim.Native.Nat.{suc, _+_, _-_, _≤_}
 use native.Mathlib.Omega.{arith}
 use lib.ListN.{length, length-set}
 use Rattle.layout.specs.Gather.{gather}
 use Rattle.layout.specs.Words.{endsOf}
 use Rattle.emit.specs.Cells.{arcsIn}
-use Rattle.emit.specs.Wrote.{Wrote, wrote-none, wrote-length}
+use Rattle.emit.specs.Wrote.{Wrote, wrote-none}
 use Rattle.emit.proofs.Laws.{wrote-end}
 use borrow.Author.Needs.{needs}
 use Rattle.emit.proofs.write_ends.Statement.{statement}
