@@ -14,6 +14,8 @@ use Rattle.pattern.specs.Found.{PostsDone, PostsStuck, Marked}
 use Rattle.pattern.specs.Laws.{run-append}
 use Rattle.pattern.specs.Joins.{slice-join, slice-one, run-join, join-rest}
 use Rattle.parser.specs.declared.Parsed.the-variants.{Good}
+use Rattle.parser.specs.declared.Part.{Part}
+use Rattle.parser.specs.Parts.{level}
 use Rattle.parser.specs.Result.{Marks, good}
 use Rattle.parser.proofs.Leaves.{one, then-more, snoc, to-digit, is-stands, digit-stands}
 
@@ -84,8 +86,8 @@ module _ (s : List ℕ) (at : ℕ) (e : getD s at 0 ≡ 35) where
             runs = λ k d a. ap (run k (after d a)) f ∙ rw (h1, h2, h);
           }
 
-pub charged : {s : List ℕ} {at n x y z a b c : ℕ} → a ≡ x → b ≡ y → c ≡ z → Marked s at n (three x y z) → Marks s at (Good n 0 0 (three a b c))
-charged e f g m = rw (e, f, g) (good m)
+pub charged : {s : List ℕ} {at n x y z a b c : ℕ} {p : Part} → a ≡ x → b ≡ y → c ≡ z → p ≡ level n 0 (three a b c) → Marked s at n (three x y z) → Marks s at (Good p)
+charged {n = n} {x = x} {y = y} {z = z} e f g h m = rw (h, e, f, g) (good {p = level n 0 (three x y z)} m)
 
 -- none
 pub posts-none : (s : List ℕ) (at : ℕ) → at ≤ length s → (eqb (getD s at 0) 42 ≡ false) × (eqb (getD s at 0) 35 ≡ false) → PostsDone s at at (λ a. a)

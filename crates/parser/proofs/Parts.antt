@@ -17,55 +17,47 @@ use Rattle.arcs.specs.Core.{core, few-tolls}
 use Rattle.grid.specs.Cells.{Cleared, Linked, Joined}
 use Rattle.grid.specs.Grow.{fresh-cleared}
 use Rattle.grid.specs.Patterns.{grown-whole}
+use Rattle.parser.specs.declared.Part.{Part}
 use Rattle.parser.specs.declared.Parsed.{Parsed}
 use Rattle.parser.specs.declared.Parsed.the-variants.{Good, Bad}
 use Rattle.parser.specs.declared.Head.{Head}
 use Rattle.parser.specs.declared.Head.the-variants.{Byte, Empty, Open, Wrong}
 use Rattle.parser.specs.Grown.{Labelled, Grown, Turned, Stepped, Entered, Left}
-use Rattle.parser.specs.Result.{Wraps, Opens, byte, blank, opens, wrong, Marks, good, bad, Part, Parses, found, stuck, Posts, Posted, posts, halts, Whole, Read}
+use Rattle.parser.specs.Result.{Wraps, Opens, byte, blank, opens, wrong, Marks, good, bad, Stands, Parses, found, stuck, Posts, Posted, posts, halts, Whole, Read}
+use Rattle.parser.specs.Parts.{level, putOn, beside, between}
 use Rattle.parser.proofs.Leaves.{is-stands}
-use Rattle.parser.proofs.Marks.{star-done, star-stuck, mark-done, mark-then-stuck}
-use Rattle.parser.proofs.Growth.{labels-count, grow-reads, grow-nothing, grow-alt, grow-cat, grow-turn, turn-star, turn-charge, wrap-steps, grow-wrap}
+use Rattle.parser.proofs.Marks.{star-done, star-stuck, mark-done, mark-then-stuck, posts-none}
+use Rattle.parser.proofs.Growth.{labels-count, grow-reads, grow-nothing, grow-alt, grow-cat, grow-turn, turn-none, turn-star, turn-charge, wrap-steps, grow-wrap}
 
 -- what a match tells of an answer
 module _ {G : ℕ → List ℕ → Pat → Type 0} {S : ℕ → ℕ → Type 0} {k : ℕ} {s : List ℕ} {at o : ℕ} {c₀ c₁ l₀ l₁ : List ℕ} where
-  is-part : {n st dp nul : ℕ} → Parses G S k s at o c₀ c₁ l₀ l₁ (Good n st dp nul) → Part G S k s at o c₀ c₁ l₀ l₁ n st dp nul
-  is-part (found p) = p
+  is-part : {p : Part} → Parses G S k s at o c₀ c₁ l₀ l₁ (Good p) → Stands G S k s at o c₀ c₁ l₀ l₁ p
+  is-part (found x) = x
 
-  is-stuck : {p : ℕ} → Parses G S k s at o c₀ c₁ l₀ l₁ (Bad p) → Stuck G k s at p
+  is-stuck : {place : ℕ} → Parses G S k s at o c₀ c₁ l₀ l₁ (Bad place) → Stuck G k s at place
   is-stuck (stuck d) = d
 
-  pub part : {r : Parsed} {n st dp nul : ℕ} → r ≡ Good n st dp nul → Parses G S k s at o c₀ c₁ l₀ l₁ r → Part G S k s at o c₀ c₁ l₀ l₁ n st dp nul
-  part e h = is-part (subst (Parses G S k s at o c₀ c₁ l₀ l₁) e h)
+  pub stands-part : {r : Parsed} {p : Part} → r ≡ Good p → Parses G S k s at o c₀ c₁ l₀ l₁ r → Stands G S k s at o c₀ c₁ l₀ l₁ p
+  stands-part e h = is-part (subst (Parses G S k s at o c₀ c₁ l₀ l₁) e h)
 
-  pub failed : {r : Parsed} {p : ℕ} → r ≡ Bad p → Parses G S k s at o c₀ c₁ l₀ l₁ r → Stuck G k s at p
+  pub failed : {r : Parsed} {place : ℕ} → r ≡ Bad place → Parses G S k s at o c₀ c₁ l₀ l₁ r → Stuck G k s at place
   failed e h = is-stuck (subst (Parses G S k s at o c₀ c₁ l₀ l₁) e h)
 
+  pub found-as : {p q : Part} → q ≡ p → Stands G S k s at o c₀ c₁ l₀ l₁ p → Parses G S k s at o c₀ c₁ l₀ l₁ (Good q)
+  found-as e x = rw e (found x)
+
 module _ {s : List ℕ} {at : ℕ} where
-  is-mark : {n st dp w : ℕ} → Marks s at (Good n st dp w) → Marked s at n w
+  is-mark : {p : Part} → Marks s at (Good p) → Marked s at (p .next) (p .nul)
   is-mark (good d) = d
 
-  is-no-mark : {p : ℕ} → Marks s at (Bad p) → PostsStuck s at p
+  is-no-mark : {place : ℕ} → Marks s at (Bad place) → PostsStuck s at place
   is-no-mark (bad d) = d
 
-  pub mark-found : {r : Parsed} {n st dp w : ℕ} → r ≡ Good n st dp w → Marks s at r → Marked s at n w
+  pub mark-found : {r : Parsed} {p : Part} → r ≡ Good p → Marks s at r → Marked s at (p .next) (p .nul)
   mark-found e h = is-mark (subst (Marks s at) e h)
 
-  pub mark-failed : {r : Parsed} {p : ℕ} → r ≡ Bad p → Marks s at r → PostsStuck s at p
+  pub mark-failed : {r : Parsed} {place : ℕ} → r ≡ Bad place → Marks s at r → PostsStuck s at place
   mark-failed e h = is-no-mark (subst (Marks s at) e h)
-
-module _ {s : List ℕ} {at o mid nul : ℕ} {c₀ c₁ : List ℕ} where
-  is-posts : {n st dp after : ℕ} → Posted s at o mid nul c₀ c₁ (Good n st dp after) → Posts s at o mid nul c₀ c₁ n after
-  is-posts (posts d) = d
-
-  is-no-posts : {p : ℕ} → Posted s at o mid nul c₀ c₁ (Bad p) → PostsStuck s at p
-  is-no-posts (halts d) = d
-
-  pub posts-found : {r : Parsed} {n st dp after : ℕ} → r ≡ Good n st dp after → Posted s at o mid nul c₀ c₁ r → Posts s at o mid nul c₀ c₁ n after
-  posts-found e h = is-posts (subst (Posted s at o mid nul c₀ c₁) e h)
-
-  pub posts-failed : {r : Parsed} {p : ℕ} → r ≡ Bad p → Posted s at o mid nul c₀ c₁ r → PostsStuck s at p
-  posts-failed e h = is-no-posts (subst (Posted s at o mid nul c₀ c₁) e h)
 
 pub record HeadByte (k : ℕ) (s : List ℕ) (at n arg : ℕ) : Type 0 where
   pub lo : ℕ
@@ -104,13 +96,22 @@ module _ {k : ℕ} {s : List ℕ} {at : ℕ} where
   head-wrong e h = is-wrong (subst (Opens k s at) e h)
 
 -- the postfixes
-pub star-posted : {s : List ℕ} {at o mid nul z : ℕ} {c₀ c₁ c₂ : List ℕ} {r : Parsed} → getD s at 0 ≡ 42 → z ≡ 0 → Linked o 31 o c₀ c₁ → Posted s (at + 1) o mid z c₁ c₂ r → Posted s at o mid nul c₀ c₂ r
-star-posted {s} {at} {nul = nul} e g k (posts {n = n} d) = posts (record { turn = λ a. d .turn (star a); is = star-done s at e n (d .is); turned = turn-star g k (d .turned) })
-star-posted {s} {at} e g k (halts {p = p} d) = halts (star-stuck s at e p d)
+pub star-posted : {s : List ℕ} {o z : ℕ} {p q : Part} {c₀ c₁ c₂ : List ℕ} {r : Parsed} → getD s (p .next) 0 ≡ 42 → z ≡ 0 → Linked o 31 o c₀ c₁ → q ≡ putOn p (p .next + 1) z → Posted s o q c₁ c₂ r → Posted s o p c₀ c₂ r
+star-posted {s} {o} {z} {p} {c₀ = c₀} {c₁ = c₁} {c₂ = c₂} {r = r} e g k i h = go (subst (λ (x : Part). Posted s o x c₁ c₂ r) i h)
+  where
+    go : {t : Parsed} → Posted s o (putOn p (p .next + 1) z) c₁ c₂ t → Posted s o p c₀ c₂ t
+    go (posts {q = q} d) = posts (record { turn = λ a. d .turn (star a); is = star-done s (p .next) e (q .next) (d .is); same-steps = d .same-steps; same-depth = d .same-depth; turned = turn-star g k (d .turned) })
+    go (halts {place = n} d) = halts (star-stuck s (p .next) e n d)
 
-pub mark-posted : {s : List ℕ} {at n o mid nul w z : ℕ} {c₀ c₁ c₂ : List ℕ} {r : Parsed} → Marked s at n w → z ≡ joint nul w → Joined o mid nul w c₀ c₁ → Posted s n o mid z c₁ c₂ r → Posted s at o mid nul c₀ c₂ r
-mark-posted {s} {at} {n} {w = w} m g k (posts {n = e} d) = posts (record { turn = λ a. d .turn (charge w a); is = mark-done s at n w m e (d .is); turned = turn-charge g k (d .turned) })
-mark-posted {s} {at} {n} {w = w} m g k (halts {p = e} d) = halts (mark-then-stuck s at n w m e d)
+pub mark-posted : {s : List ℕ} {o n w z : ℕ} {p q : Part} {c₀ c₁ c₂ : List ℕ} {r : Parsed} → Marked s (p .next) n w → z ≡ joint (p .nul) w → Joined o (o + p .steps) (p .nul) w c₀ c₁ → q ≡ putOn p n z → Posted s o q c₁ c₂ r → Posted s o p c₀ c₂ r
+mark-posted {s} {o} {n} {w} {z} {p} {c₀ = c₀} {c₁ = c₁} {c₂ = c₂} {r = r} m g k i h = go (subst (λ (x : Part). Posted s o x c₁ c₂ r) i h)
+  where
+    go : {t : Parsed} → Posted s o (putOn p n z) c₁ c₂ t → Posted s o p c₀ c₂ t
+    go (posts {q = q} d) = posts (record { turn = λ a. d .turn (charge w a); is = mark-done s (p .next) n w m (q .next) (d .is); same-steps = d .same-steps; same-depth = d .same-depth; turned = turn-charge g k (d .turned) })
+    go (halts {place = e} d) = halts (mark-then-stuck s (p .next) n w m e d)
+
+pub none-posted : {s : List ℕ} {o : ℕ} {p : Part} {c : List ℕ} → p .next ≤ length s → (eqb (getD s (p .next) 0) 42 ≡ false) × (eqb (getD s (p .next) 0) 35 ≡ false) → Posted s o p c c (Good p)
+none-posted {s} {p = p} l h = posts (record { turn = λ a. a; is = posts-none s (p .next) l h; same-steps = refl; same-depth = refl; turned = turn-none })
 
 closing-some : (b : Bracket) → 0 < closing b
 closing-some Machine.round = omega arith
@@ -118,80 +119,84 @@ closing-some Machine.curly = omega arith
 
 -- the parts
 module _ {k : ℕ} {s : List ℕ} {at o : ℕ} where
-  pub byte-part : {n arg r : ℕ} {c₀ c₁ l₀ l₁ : List ℕ} → HeadByte k s at n arg → Stepped o 0 arg c₀ c₁ l₀ l₁ r → Part Atom AtomStop k s at o c₀ c₁ l₀ l₁ n 1 0 r
+  pub byte-part : {n arg r : ℕ} {c₀ c₁ l₀ l₁ : List ℕ} → HeadByte k s at n arg → Stepped o 0 arg c₀ c₁ l₀ l₁ r → Stands Atom AtomStop k s at o c₀ c₁ l₀ l₁ (level n 1 r)
   unfolding stepsOf nestingOf
-  byte-part h d = record { tree = reads (h .lo) (h .hi); is = h .done; counts = refl; deep = refl; grown = grow-reads (h .argument) d }
+  byte-part h d = record { tree = reads (h .lo) (h .hi); is = h .done; counts = refl; depth = refl; grown = grow-reads (h .argument) d }
 
-  pub blank-part : {n : ℕ} {c l : List ℕ} → Done Atom AtomStop k s at n nothing → Part Atom AtomStop k s at o c c l l n 0 0 0
+  pub blank-part : {n : ℕ} {c l : List ℕ} → Done Atom AtomStop k s at n nothing → Stands Atom AtomStop k s at o c c l l (level n 0 0)
   unfolding stepsOf nestingOf
-  blank-part d = record { tree = nothing; is = d; counts = refl; deep = refl; grown = grow-nothing }
+  blank-part d = record { tree = nothing; is = d; counts = refl; depth = refl; grown = grow-nothing }
 
-  pub factor-part : {n e st dp nul after : ℕ} {c₀ c₁ c₂ l₀ l₁ : List ℕ} → Part Atom AtomStop k s at o c₀ c₁ l₀ l₁ n st dp nul → Posts s n o (o + st) nul c₁ c₂ e after → Part Factor FactorStop k s at o c₀ c₂ l₀ l₁ e st dp after
-  factor-part x p = record {
-    tree = p .turn (x .tree);
-    is = factor-good (x .is) (p .is);
-    counts = x .counts ∙ sym (p .is .counts (x .tree));
-    deep = x .deep ∙ sym (p .is .level (x .tree));
-    grown = grow-turn (x .counts) (p .is .counts (x .tree)) (x .grown) (p .turned);
+  factor-part : {p q : Part} {c₀ c₁ c₂ l₀ l₁ : List ℕ} → Stands Atom AtomStop k s at o c₀ c₁ l₀ l₁ p → Posts s o p c₁ c₂ q → Stands Factor FactorStop k s at o c₀ c₂ l₀ l₁ q
+  factor-part x y = record {
+    tree = y .turn (x .tree);
+    is = factor-good (x .is) (y .is);
+    counts = y .same-steps ∙ x .counts ∙ sym (y .is .counts (x .tree));
+    depth = y .same-depth ∙ x .depth ∙ sym (y .is .level (x .tree));
+    grown = grow-turn (x .counts) (y .is .counts (x .tree)) (x .grown) (y .turned);
   }
 
-  pub term-part : {n st dp nul : ℕ} {c₀ c₁ l₀ l₁ : List ℕ} → Part Factor FactorStop k s at o c₀ c₁ l₀ l₁ n st dp nul → starts k (getD s n 0) ≡ false → Part Term TermStop k s at o c₀ c₁ l₀ l₁ n st dp nul
-  term-part f h = record { tree = f .tree; is = term-good (f .is) (λ _. h); counts = f .counts; deep = f .deep; grown = f .grown }
+  pub factor-parses : {p : Part} {c₀ c₁ c₂ l₀ l₁ : List ℕ} {r : Parsed} → Stands Atom AtomStop k s at o c₀ c₁ l₀ l₁ p → Posted s o p c₁ c₂ r → Parses Factor FactorStop k s at o c₀ c₂ l₀ l₁ r
+  factor-parses x (posts y) = found (factor-part x y)
+  factor-parses x (halts d) = stuck (factor-bad-2 (x .is) d)
 
-  pub term-part-2 : {n e st dp nul more other last r d : ℕ} {c₀ c₁ c₂ c₃ l₀ l₁ l₂ : List ℕ} → Part Factor FactorStop k s at o c₀ c₁ l₀ l₁ n st dp nul → Part Term TermStop k s n (o + st) c₁ c₂ l₁ l₂ e more other last
-      → Joined o (o + st) nul last c₂ c₃ → r ≡ joint nul last → d ≡ max dp other → Part Term TermStop k s at o c₀ c₃ l₀ l₂ e (st + more) d r
+  pub term-part : {p : Part} {c₀ c₁ l₀ l₁ : List ℕ} → Stands Factor FactorStop k s at o c₀ c₁ l₀ l₁ p → starts k (getD s (p .next) 0) ≡ false → Stands Term TermStop k s at o c₀ c₁ l₀ l₁ p
+  term-part f h = record { tree = f .tree; is = term-good (f .is) (λ _. h); counts = f .counts; depth = f .depth; grown = f .grown }
+
+  pub term-part-2 : {p q : Part} {r : ℕ} {c₀ c₁ c₂ c₃ l₀ l₁ l₂ : List ℕ} → Stands Factor FactorStop k s at o c₀ c₁ l₀ l₁ p → Stands Term TermStop k s (p .next) (o + p .steps) c₁ c₂ l₁ l₂ q
+      → Joined o (o + p .steps) (p .nul) (q .nul) c₂ c₃ → r ≡ joint (p .nul) (q .nul) → Stands Term TermStop k s at o c₀ c₃ l₀ l₂ (beside p q r)
   unfolding stepsOf nestingOf
-  term-part-2 f t j g h = record {
+  term-part-2 f t j g = record {
     tree = cat (f .tree) (t .tree);
     is = term-good-2 (f .is) (t .is);
     counts = ap₂ _+_ (f .counts) (t .counts);
-    deep = h ∙ ap₂ max (f .deep) (t .deep);
+    depth = ap₂ max (f .depth) (t .depth);
     grown = grow-cat (f .counts) (f .grown) (t .grown) j g;
   }
 
-  pub pattern-part : {n st dp nul : ℕ} {c₀ c₁ l₀ l₁ : List ℕ} → Part Term TermStop k s at o c₀ c₁ l₀ l₁ n st dp nul → eqb (getD s n 0) 124 ≡ false → Part Pattern PatternStop k s at o c₀ c₁ l₀ l₁ n st dp nul
-  pattern-part f h = record { tree = f .tree; is = pattern-good (f .is) (λ _. h); counts = f .counts; deep = f .deep; grown = f .grown }
+  pub pattern-part : {p : Part} {c₀ c₁ l₀ l₁ : List ℕ} → Stands Term TermStop k s at o c₀ c₁ l₀ l₁ p → eqb (getD s (p .next) 0) 124 ≡ false → Stands Pattern PatternStop k s at o c₀ c₁ l₀ l₁ p
+  pattern-part f h = record { tree = f .tree; is = pattern-good (f .is) (λ _. h); counts = f .counts; depth = f .depth; grown = f .grown }
 
-  pub pattern-part-2 : {n e st dp nul more other last r d : ℕ} {c₀ c₁ c₂ l₀ l₁ l₂ : List ℕ} → Part Term TermStop k s at o c₀ c₁ l₀ l₁ n st dp nul → getD s n 0 ≡ 124 → Part Pattern PatternStop k s (n + 1) (o + st) c₁ c₂ l₁ l₂ e more other last
-      → r ≡ lighter nul last → d ≡ max dp other → Part Pattern PatternStop k s at o c₀ c₂ l₀ l₂ e (st + more) d r
+  pub pattern-part-2 : {p q : Part} {r : ℕ} {c₀ c₁ c₂ l₀ l₁ l₂ : List ℕ} → Stands Term TermStop k s at o c₀ c₁ l₀ l₁ p → getD s (p .next) 0 ≡ 124 → Stands Pattern PatternStop k s (p .next + 1) (o + p .steps) c₁ c₂ l₁ l₂ q
+      → r ≡ lighter (p .nul) (q .nul) → Stands Pattern PatternStop k s at o c₀ c₂ l₀ l₂ (beside p q r)
   unfolding stepsOf nestingOf
-  pattern-part-2 {n} f b t g h = record {
+  pattern-part-2 {p} f b t g = record {
     tree = alt (f .tree) (t .tree);
-    is = pattern-good-2 (f .is) (is-stands s n 124 b (omega arith)) b (t .is);
+    is = pattern-good-2 (f .is) (is-stands s (p .next) 124 b (omega arith)) b (t .is);
     counts = ap₂ _+_ (f .counts) (t .counts);
-    deep = h ∙ ap₂ max (f .deep) (t .deep);
+    depth = ap₂ max (f .depth) (t .depth);
     grown = grow-alt (f .counts) (f .grown) (t .grown) g;
   }
 
-  pub atom-part : {i n c v own st dp nul r : ℕ} {c₀ c₁ c₂ c₃ l₀ l₁ l₂ l₃ : List ℕ} → HeadOpen k s at i c v → Entered o v c₀ c₁ l₀ l₁ own → Part Pattern PatternStop k s i (o + own) c₁ c₂ l₁ l₂ n st dp nul
-      → getD s n 0 ≡ c → Left o v st nul c₂ c₃ l₂ l₃ r → Part Atom AtomStop k s at o c₀ c₃ l₀ l₃ (n + 1) (own + st + own) (1 + dp) r
-  atom-part {n = n} {c = c} {own = own} h i p e j = record {
-    tree = h .wrap (p .tree);
-    is = atom-good (h .opened) (p .is) (is-stands s n c e (rw (h .opened .closes) (closing-some (h .opened .bracket)))) e;
-    counts = ap (λ (x : ℕ). own + x + own) (p .counts) ∙ wrap-steps (h .wraps) i (p .tree);
-    deep = ap (λ (x : ℕ). 1 + x) (p .deep) ∙ sym (h .opened .deepens (p .tree));
-    grown = grow-wrap (p .counts) (h .wraps) i (p .grown) j;
+  pub atom-part : {i c v own r : ℕ} {p : Part} {c₀ c₁ c₂ c₃ l₀ l₁ l₂ l₃ : List ℕ} → HeadOpen k s at i c v → Entered o v c₀ c₁ l₀ l₁ own → Stands Pattern PatternStop k s i (o + own) c₁ c₂ l₁ l₂ p
+      → getD s (p .next) 0 ≡ c → Left o v (p .steps) (p .nul) c₂ c₃ l₂ l₃ r → Stands Atom AtomStop k s at o c₀ c₃ l₀ l₃ (between p own r)
+  atom-part {c = c} {own = own} {p = p} h i x e j = record {
+    tree = h .wrap (x .tree);
+    is = atom-good (h .opened) (x .is) (is-stands s (p .next) c e (rw (h .opened .closes) (closing-some (h .opened .bracket)))) e;
+    counts = ap (λ (n : ℕ). own + n + own) (x .counts) ∙ wrap-steps (h .wraps) i (x .tree);
+    depth = ap (λ (n : ℕ). 1 + n) (x .depth) ∙ sym (h .opened .deepens (x .tree));
+    grown = grow-wrap (x .counts) (h .wraps) i (x .grown) j;
   }
 
 -- the whole text
-pub read-whole : {k n st dp nul : ℕ} {s c₀ c₁ l₀ l₁ : List ℕ} → length s ≤ 255 → Cleared c₀ → Part Pattern PatternStop k s 0 0 c₀ c₁ l₀ l₁ n st dp nul → length s ≤ n → Read k s c₁ l₁ n st dp nul
-read-whole {n = n} {nul = nul} {s = s} {c₀ = c₀} {c₁ = c₁} {l₀ = l₀} {l₁ = l₁} b clear x h = record {
+pub read-whole : {k : ℕ} {p : Part} {s c₀ c₁ l₀ l₁ : List ℕ} → length s ≤ 255 → Cleared c₀ → Stands Pattern PatternStop k s 0 0 c₀ c₁ l₀ l₁ p → length s ≤ p .next → Read k s c₁ l₁ p
+read-whole {p = p} {s = s} {c₀ = c₀} {c₁ = c₁} {l₁ = l₁} b clear x h = record {
   tree = x .tree;
   parsed = accepted (x .is) h;
   all = omega (arith, x .is .within);
   counts = x .counts;
-  deep = x .deep;
+  depth = x .depth;
   root = x .grown .root;
   whole = whole;
 }
   where
     whole : stepsOf (x .tree) ≤ 31 → Whole (x .tree) c₁ l₁
     whole few =
-        let p = accepted (x .is) h in
-        let g = x .grown .built (omega arith) (omega (arith, few-tolls p b)) (fresh-cleared c₀ clear) in
+        let t = accepted (x .is) h in
+        let g = x .grown .built (omega arith) (omega (arith, few-tolls t b)) (fresh-cleared c₀ clear) in
         let l = x .grown .labelled (omega arith) in
         record {
-          arcs = grown-whole p b c₀ c₁ nul clear g;
+          arcs = grown-whole t b c₀ c₁ (p .nul) clear g;
           kinds = λ i j. (let z : 0 + i ≡ i = omega arith in rw z at (l .kinds i (omega (arith, labels-count (x .tree)))));
           arguments = λ i j. (let z : 0 + i ≡ i = omega arith in rw z at (l .arguments i (omega (arith, labels-count (x .tree)))));
         }

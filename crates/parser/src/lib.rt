@@ -10,19 +10,20 @@ ghost use Rattle.pattern.specs.Grammar.{Pattern, Term, Factor, Atom};
 ghost use Rattle.pattern.specs.Machine.{starts, digit};
 ghost use Rattle.pattern.specs.Found.{AtomStop, FactorStop, TermStop, PatternStop};
 ghost use Rattle.parser.specs.Result.{Opens, Marks, Posted, Parses, Answers};
+ghost use Rattle.parser.specs.Parts.{level, putOn, beside, between};
 ghost use Rattle.parser.specs.Grown.{Stepped, Entered, Left};
 
-// A part of the text: the place after it, its steps, its nesting, and what is charged where it takes no step (the mark: it takes one).
+// A part of the text: the place after it, its steps, its nesting, and what is charged where it takes no step; the mark, if it must take one.
+pub struct Part {
+    pub next: usize,
+    pub steps: usize,
+    pub deep: usize,
+    pub nul: u32,
+}
+
 pub enum Parsed {
-    Good {
-        next: usize,
-        steps: usize,
-        deep: usize,
-        nul: u32,
-    },
-    Bad {
-        place: usize,
-    },
+    Good { part: Part },
+    Bad { place: usize },
 }
 
 // What the first bytes of an atom are. A group opens variable 0.
@@ -200,6 +201,56 @@ fn begins(b: u8, k: u32) -> bool
     }
 }
 
+// A part with no bracket.
+fn leaf(next: usize, steps: usize, nul: u32) -> Part
+    ensures { λ r. ⌜ r ≡ level next steps nul ⌝ }
+{
+    Part {
+        next,
+        steps,
+        deep: 0,
+        nul,
+    }
+}
+
+// A part that goes on up to next, with another weight for no step.
+fn put_on(part: Part, next: usize, nul: u32) -> Part
+    ensures { λ r. ⌜ r ≡ putOn part next nul ⌝ }
+{
+    Part {
+        next,
+        steps: part.steps,
+        deep: part.deep,
+        nul,
+    }
+}
+
+// Two parts side by side, with the weight of both for no step.
+fn beside(first: Part, second: Part, nul: u32) -> Part
+    requires { ⌜ first .steps + second .steps ≤ 255 ⌝ }
+    ensures { λ r. ⌜ r ≡ beside first second nul ⌝ }
+{
+    Part {
+        next: second.next,
+        steps: first.steps + second.steps,
+        deep: larger(first.deep, second.deep),
+        nul,
+    }
+}
+
+// What stands in a bracket, with the bracket's own step at each end.
+fn between(part: Part, own: usize, nul: u32) -> Part
+    requires { ⌜ (part .next ≤ 255) × (part .steps ≤ 255) × (part .deep ≤ 255) × (own ≤ 1) ⌝ }
+    ensures { λ r. ⌜ r ≡ between part own nul ⌝ }
+{
+    Part {
+        next: part.next + 1,
+        steps: own + part.steps + own,
+        deep: 1 + part.deep,
+        nul,
+    }
+}
+
 // At a `#`: the weight mark as a part with no step.
 fn mark(text: &[u8], at: usize) -> Parsed
     requires { ⌜ (length (now text) ≤ 255) × (at ≤ length (now text)) × (getD (now text) at 0 ≡ 35) ⌝ }
@@ -222,14 +273,11 @@ fn mark(text: &[u8], at: usize) -> Parsed
     }
     let weight = (x - b'0') as u32 * 100 + (y - b'0') as u32 * 10 + (z - b'0') as u32;
     Parsed::Good {
-        next: three + 1,
-        steps: 0,
-        deep: 0,
-        nul: weight,
+        part: leaf(three + 1, 0, weight),
     }
 }
 
-// Step o, where there is room for it: its arcs and its label. It is charged by none but what stands around it.
+// Step o, where there is room for it: its arcs and its label. A part that is one step must take it.
 fn step(cells: &mut [u32], labels: &mut [u32], o: usize, kind: u32, argument: u32) -> u32
     requires { ⌜ (1024 ≤ length (now cells)) × (64 ≤ length (now labels)) ⌝ }
     ensures { λ r. ⌜ Stepped o kind argument (now (cells .entry)) (now (cells .exit)) (now (labels .entry)) (now (labels .exit)) r ⌝ }
@@ -255,57 +303,40 @@ fn enter(cells: &mut [u32], labels: &mut [u32], o: usize, variable: u32) -> usiz
 }
 
 // The step of a `}`, and the inside joined between the two.
-fn leave(
-    cells: &mut [u32],
-    labels: &mut [u32],
-    o: usize,
-    variable: u32,
-    steps: usize,
-    nul: u32,
-) -> u32
-    requires { ⌜ (o + steps ≤ 255) × (1024 ≤ length (now cells)) × (64 ≤ length (now labels)) ⌝ }
-    ensures { λ r. ⌜ Left o variable steps nul (now (cells .entry)) (now (cells .exit)) (now (labels .entry)) (now (labels .exit)) r ⌝ }
+fn leave(cells: &mut [u32], labels: &mut [u32], o: usize, variable: u32, part: Part) -> u32
+    requires { ⌜ (o + part .steps ≤ 255) × (1024 ≤ length (now cells)) × (64 ≤ length (now labels)) ⌝ }
+    ensures { λ r. ⌜ Left o variable (part .steps) (part .nul) (now (cells .entry)) (now (cells .exit)) (now (labels .entry)) (now (labels .exit)) r ⌝ }
 {
     if variable == 0 {
-        return nul;
+        return part.nul;
     }
     let mid = o + 1;
-    let end = mid + steps;
+    let end = mid + part.steps;
     let shut = step(cells, labels, end, 2, variable);
-    let inner = grid::join(cells, mid, end, nul, shut);
+    let inner = grid::join(cells, mid, end, part.nul, shut);
     grid::join(cells, o, mid, 4294967295, inner)
 }
 
-// The postfixes that stand from at on, put on the part of the steps after o up to mid.
-fn postfixes(text: &[u8], at: usize, cells: &mut [u32], o: usize, mid: usize, nul: u32) -> Parsed
-    requires { ⌜ (length (now text) ≤ 255) × (at ≤ length (now text)) × (1024 ≤ length (now cells)) ⌝ }
-    ensures { λ r. ⌜ Posted (now (text .entry)) at o mid nul (now (cells .entry)) (now (cells .exit)) r ⌝ }
+// The postfixes after a part whose steps are numbered from o on.
+fn postfixes(text: &[u8], cells: &mut [u32], o: usize, part: Part) -> Parsed
+    requires { ⌜ (length (now text) ≤ 255) × (part .next ≤ length (now text)) × (o + part .steps ≤ 255) × (1024 ≤ length (now cells)) ⌝ }
+    ensures { λ r. ⌜ Posted (now (text .entry)) o part (now (cells .entry)) (now (cells .exit)) r ⌝ }
 {
-    let b = byte_at(text, at);
+    let b = byte_at(text, part.next);
     if b == b'*' {
         let passes = grid::again(cells, o);
-        return postfixes(text, at + 1, cells, o, mid, passes);
+        return postfixes(text, cells, o, put_on(part, part.next + 1, passes));
     }
     if b == b'#' {
-        return match mark(text, at) {
+        return match mark(text, part.next) {
             Parsed::Bad { place } => Parsed::Bad { place },
-            Parsed::Good {
-                next,
-                steps: _,
-                deep: _,
-                nul: weight,
-            } => {
-                let charged = grid::join(cells, o, mid, nul, weight);
-                postfixes(text, next, cells, o, mid, charged)
+            Parsed::Good { part: weight } => {
+                let charged = grid::join(cells, o, o + part.steps, part.nul, weight.nul);
+                postfixes(text, cells, o, put_on(part, weight.next, charged))
             }
         };
     }
-    Parsed::Good {
-        next: at,
-        steps: 0,
-        deep: 0,
-        nul,
-    }
+    Parsed::Good { part }
 }
 
 fn atom(text: &[u8], at: usize, k: u32, cells: &mut [u32], labels: &mut [u32], o: usize) -> Parsed
@@ -315,18 +346,12 @@ fn atom(text: &[u8], at: usize, k: u32, cells: &mut [u32], labels: &mut [u32], o
     match opening(text, at, k) {
         Head::Wrong { place } => Parsed::Bad { place },
         Head::Empty { next } => Parsed::Good {
-            next,
-            steps: 0,
-            deep: 0,
-            nul: 0,
+            part: leaf(next, 0, 0),
         },
         Head::Byte { next, argument } => {
             let nul = step(cells, labels, o, 0, argument);
             Parsed::Good {
-                next,
-                steps: 1,
-                deep: 0,
-                nul,
+                part: leaf(next, 1, nul),
             }
         }
         Head::Open {
@@ -337,22 +362,13 @@ fn atom(text: &[u8], at: usize, k: u32, cells: &mut [u32], labels: &mut [u32], o
             let own = enter(cells, labels, o, variable);
             match pattern(text, inside, k, cells, labels, o + own) {
                 Parsed::Bad { place } => Parsed::Bad { place },
-                Parsed::Good {
-                    next,
-                    steps,
-                    deep,
-                    nul,
-                } => {
-                    if byte_at(text, next) == close {
-                        let whole = leave(cells, labels, o, variable, steps, nul);
-                        Parsed::Good {
-                            next: next + 1,
-                            steps: own + steps + own,
-                            deep: 1 + deep,
-                            nul: whole,
-                        }
-                    } else {
-                        Parsed::Bad { place: next }
+                Parsed::Good { part } => {
+                    if byte_at(text, part.next) != close {
+                        return Parsed::Bad { place: part.next };
+                    }
+                    let nul = leave(cells, labels, o, variable, part);
+                    Parsed::Good {
+                        part: between(part, own, nul),
                     }
                 }
             }
@@ -366,25 +382,7 @@ fn factor(text: &[u8], at: usize, k: u32, cells: &mut [u32], labels: &mut [u32],
 {
     match atom(text, at, k, cells, labels, o) {
         Parsed::Bad { place } => Parsed::Bad { place },
-        Parsed::Good {
-            next,
-            steps,
-            deep,
-            nul,
-        } => match postfixes(text, next, cells, o, o + steps, nul) {
-            Parsed::Bad { place } => Parsed::Bad { place },
-            Parsed::Good {
-                next: end,
-                steps: _,
-                deep: _,
-                nul: last,
-            } => Parsed::Good {
-                next: end,
-                steps,
-                deep,
-                nul: last,
-            },
-        },
+        Parsed::Good { part } => postfixes(text, cells, o, part),
     }
 }
 
@@ -394,36 +392,18 @@ fn term(text: &[u8], at: usize, k: u32, cells: &mut [u32], labels: &mut [u32], o
 {
     match factor(text, at, k, cells, labels, o) {
         Parsed::Bad { place } => Parsed::Bad { place },
-        Parsed::Good {
-            next,
-            steps,
-            deep,
-            nul,
-        } => {
-            if begins(byte_at(text, next), k) {
-                match term(text, next, k, cells, labels, o + steps) {
-                    Parsed::Bad { place } => Parsed::Bad { place },
+        Parsed::Good { part } => {
+            if !begins(byte_at(text, part.next), k) {
+                return Parsed::Good { part };
+            }
+            let mid = o + part.steps;
+            match term(text, part.next, k, cells, labels, mid) {
+                Parsed::Bad { place } => Parsed::Bad { place },
+                Parsed::Good { part: rest } => {
+                    let both = grid::join(cells, o, mid, part.nul, rest.nul);
                     Parsed::Good {
-                        next: end,
-                        steps: more,
-                        deep: other,
-                        nul: last,
-                    } => {
-                        let both = grid::join(cells, o, o + steps, nul, last);
-                        Parsed::Good {
-                            next: end,
-                            steps: steps + more,
-                            deep: larger(deep, other),
-                            nul: both,
-                        }
+                        part: beside(part, rest, both),
                     }
-                }
-            } else {
-                Parsed::Good {
-                    next,
-                    steps,
-                    deep,
-                    nul,
                 }
             }
         }
@@ -443,36 +423,17 @@ fn pattern(
 {
     match term(text, at, k, cells, labels, o) {
         Parsed::Bad { place } => Parsed::Bad { place },
-        Parsed::Good {
-            next,
-            steps,
-            deep,
-            nul,
-        } => {
-            if byte_at(text, next) == b'|' {
-                match pattern(text, next + 1, k, cells, labels, o + steps) {
-                    Parsed::Bad { place } => Parsed::Bad { place },
+        Parsed::Good { part } => {
+            if byte_at(text, part.next) != b'|' {
+                return Parsed::Good { part };
+            }
+            match pattern(text, part.next + 1, k, cells, labels, o + part.steps) {
+                Parsed::Bad { place } => Parsed::Bad { place },
+                Parsed::Good { part: rest } => {
+                    let either = grid::lighter(part.nul, rest.nul);
                     Parsed::Good {
-                        next: end,
-                        steps: more,
-                        deep: other,
-                        nul: last,
-                    } => {
-                        let either = grid::lighter(nul, last);
-                        Parsed::Good {
-                            next: end,
-                            steps: steps + more,
-                            deep: larger(deep, other),
-                            nul: either,
-                        }
+                        part: beside(part, rest, either),
                     }
-                }
-            } else {
-                Parsed::Good {
-                    next,
-                    steps,
-                    deep,
-                    nul,
                 }
             }
         }
@@ -487,21 +448,11 @@ pub fn parse(text: &[u8], k: u32, cells: &mut [u32], labels: &mut [u32]) -> Pars
     grid::clear(cells);
     match pattern(text, 0, k, cells, labels, 0) {
         Parsed::Bad { place } => Parsed::Bad { place },
-        Parsed::Good {
-            next,
-            steps,
-            deep,
-            nul,
-        } => {
-            if next < text.len() {
-                Parsed::Bad { place: next }
+        Parsed::Good { part } => {
+            if part.next < text.len() {
+                Parsed::Bad { place: part.next }
             } else {
-                Parsed::Good {
-                    next,
-                    steps,
-                    deep,
-                    nul,
-                }
+                Parsed::Good { part }
             }
         }
     }

@@ -3,12 +3,13 @@ use mathlib.Core.Path.{sym, _∙_}
 use Prim.Native.Nat.{_+_, _*_, _-_}
 use native.Mathlib.Omega.{arith}
 use lib.ListN.{length}
+use borrow.Author.Tests.{not-true, not-false}
 use Rattle.pattern.specs.Machine.{starts}
-use Rattle.pattern.specs.Joins.{factor-bad, factor-bad-2, term-bad, term-bad-2, pattern-bad, pattern-bad-2, atom-bad, atom-bad-2}
+use Rattle.pattern.specs.Joins.{factor-bad, term-bad, term-bad-2, pattern-bad, pattern-bad-2, atom-bad, atom-bad-2}
 use Rattle.parser.specs.Result.{found, stuck}
 use Rattle.parser.proofs.Cases.{seen, unlike}
 use Rattle.parser.proofs.Leaves.{is-stands, starts-stands}
-use Rattle.parser.proofs.Parts.{part, failed, posts-found, posts-failed, head-byte, head-blank, head-open, head-wrong, byte-part, blank-part, factor-part, term-part, term-part-2, pattern-part, pattern-part-2, atom-part}
+use Rattle.parser.proofs.Parts.{stands-part, failed, found-as, head-byte, head-blank, head-open, head-wrong, byte-part, blank-part, factor-parses, term-part, term-part-2, pattern-part, pattern-part-2, atom-part}
 use borrow.Author.Needs.{needs}
 use Prim.Native.Nat.{ℕ, _<_}
 use borrow.Fn.Kinds.{In}
@@ -28,9 +29,11 @@ use Rattle.parser.proofs.+atom+factor+pattern+term.Lts-term as term-lts
 use Rattle.grid.proofs.join.Reads as join-reads
 use Rattle.grid.proofs.lighter.Reads as lighter-reads
 use Rattle.parser.proofs.begins.Reads as begins-reads
+use Rattle.parser.proofs.beside.Reads as beside-reads
+use Rattle.parser.proofs.between.Reads as between-reads
 use Rattle.parser.proofs.byte_at.Reads as byte-at-reads
 use Rattle.parser.proofs.enter.Reads as enter-reads
-use Rattle.parser.proofs.larger.Reads as larger-reads
+use Rattle.parser.proofs.leaf.Reads as leaf-reads
 use Rattle.parser.proofs.leave.Reads as leave-reads
 use Rattle.parser.proofs.opening.Reads as opening-reads
 use Rattle.parser.proofs.postfixes.Reads as postfixes-reads
@@ -74,1404 +77,299 @@ term-at t = and 3 term-kinds.ps (is 3 term-kinds.ps μ-term t) term.Pre
 abbrev term-below : ℕ → In 3 term-kinds.ps
 term-below t = and 3 term-kinds.ps (falls 3 term-kinds.ps _<_ μ-term t) term.Pre
 
-atom-opening-requires : (t : ℕ) → atom-lts.Need-opening-requires (
-  opening-reads.Asked,
-  opening-reads.Learnt,
-  step-reads.Asked,
-  step-reads.Learnt,
-  enter-reads.Asked,
-  enter-reads.Learnt,
-  pattern-below t,
-  pattern.Post,
-  byte-at-reads.Asked,
-  byte-at-reads.Learnt,
-  leave-reads.Asked,
-  leave-reads.Learnt,
-) (atom-at t) atom.Post
+abbrev term-claims : ℕ → term-lts.Claims
+term-claims t = (factor-below t, factor.Post, byte-at-reads.Asked, byte-at-reads.Learnt, begins-reads.Asked, begins-reads.Learnt, term-below t, term.Post, join-reads.Asked, join-reads.Learnt, beside-reads.Asked, beside-reads.Learnt)
+
+abbrev pattern-claims : ℕ → pattern-lts.Claims
+pattern-claims t = (term-below t, term.Post, byte-at-reads.Asked, byte-at-reads.Learnt, pattern-below t, pattern.Post, lighter-reads.Asked, lighter-reads.Learnt, beside-reads.Asked, beside-reads.Learnt)
+
+abbrev factor-claims : ℕ → factor-lts.Claims
+factor-claims t = (atom-below t, atom.Post, postfixes-reads.Asked, postfixes-reads.Learnt)
+
+abbrev atom-claims : ℕ → atom-lts.Claims
+atom-claims t = (opening-reads.Asked, opening-reads.Learnt, leaf-reads.Asked, leaf-reads.Learnt, step-reads.Asked, step-reads.Learnt, enter-reads.Asked, enter-reads.Learnt, pattern-below t, pattern.Post, byte-at-reads.Asked, byte-at-reads.Learnt, leave-reads.Asked, leave-reads.Learnt, between-reads.Asked, between-reads.Learnt)
+
+atom-opening-requires : (t : ℕ) → atom-lts.Need-opening-requires (atom-claims t) (atom-at t) atom.Post
 atom-opening-requires t c κs = search needs
 
-atom-enum-known-place : (t : ℕ) → atom-lts.Need-enum-known-place (
-  opening-reads.Asked,
-  opening-reads.Learnt,
-  step-reads.Asked,
-  step-reads.Learnt,
-  enter-reads.Asked,
-  enter-reads.Learnt,
-  pattern-below t,
-  pattern.Post,
-  byte-at-reads.Asked,
-  byte-at-reads.Learnt,
-  leave-reads.Asked,
-  leave-reads.Learnt,
-) (atom-at t) atom.Post
+atom-enum-known-place : (t : ℕ) → atom-lts.Need-enum-known-place (atom-claims t) (atom-at t) atom.Post
 atom-enum-known-place t c = search needs
 
-atom-enum-known-next : (t : ℕ) → atom-lts.Need-enum-known-next (
-  opening-reads.Asked,
-  opening-reads.Learnt,
-  step-reads.Asked,
-  step-reads.Learnt,
-  enter-reads.Asked,
-  enter-reads.Learnt,
-  pattern-below t,
-  pattern.Post,
-  byte-at-reads.Asked,
-  byte-at-reads.Learnt,
-  leave-reads.Asked,
-  leave-reads.Learnt,
-) (atom-at t) atom.Post
+atom-enum-known-next : (t : ℕ) → atom-lts.Need-enum-known-next (atom-claims t) (atom-at t) atom.Post
 atom-enum-known-next t c = search needs
 
-atom-enum-known-next-2 : (t : ℕ) → atom-lts.Need-enum-known-next-2 (
-  opening-reads.Asked,
-  opening-reads.Learnt,
-  step-reads.Asked,
-  step-reads.Learnt,
-  enter-reads.Asked,
-  enter-reads.Learnt,
-  pattern-below t,
-  pattern.Post,
-  byte-at-reads.Asked,
-  byte-at-reads.Learnt,
-  leave-reads.Asked,
-  leave-reads.Learnt,
-) (atom-at t) atom.Post
+atom-leaf-requires : (t : ℕ) → atom-lts.Need-leaf-requires (atom-claims t) (atom-at t) atom.Post
+atom-leaf-requires t c κs = search needs
+
+atom-enum-known-next-2 : (t : ℕ) → atom-lts.Need-enum-known-next-2 (atom-claims t) (atom-at t) atom.Post
 atom-enum-known-next-2 t c = search needs
 
-atom-step-requires : (t : ℕ) → atom-lts.Need-step-requires (
-  opening-reads.Asked,
-  opening-reads.Learnt,
-  step-reads.Asked,
-  step-reads.Learnt,
-  enter-reads.Asked,
-  enter-reads.Learnt,
-  pattern-below t,
-  pattern.Post,
-  byte-at-reads.Asked,
-  byte-at-reads.Learnt,
-  leave-reads.Asked,
-  leave-reads.Learnt,
-) (atom-at t) atom.Post
+atom-step-requires : (t : ℕ) → atom-lts.Need-step-requires (atom-claims t) (atom-at t) atom.Post
 atom-step-requires t c κs = search needs
 
-atom-enum-known-inside : (t : ℕ) → atom-lts.Need-enum-known-inside (
-  opening-reads.Asked,
-  opening-reads.Learnt,
-  step-reads.Asked,
-  step-reads.Learnt,
-  enter-reads.Asked,
-  enter-reads.Learnt,
-  pattern-below t,
-  pattern.Post,
-  byte-at-reads.Asked,
-  byte-at-reads.Learnt,
-  leave-reads.Asked,
-  leave-reads.Learnt,
-) (atom-at t) atom.Post
+atom-leaf-requires-2 : (t : ℕ) → atom-lts.Need-leaf-requires-2 (atom-claims t) (atom-at t) atom.Post
+atom-leaf-requires-2 t c κs = search needs
+
+atom-enum-known-inside : (t : ℕ) → atom-lts.Need-enum-known-inside (atom-claims t) (atom-at t) atom.Post
 atom-enum-known-inside t c = search needs
 
-atom-enter-requires : (t : ℕ) → atom-lts.Need-enter-requires (
-  opening-reads.Asked,
-  opening-reads.Learnt,
-  step-reads.Asked,
-  step-reads.Learnt,
-  enter-reads.Asked,
-  enter-reads.Learnt,
-  pattern-below t,
-  pattern.Post,
-  byte-at-reads.Asked,
-  byte-at-reads.Learnt,
-  leave-reads.Asked,
-  leave-reads.Learnt,
-) (atom-at t) atom.Post
+atom-enter-requires : (t : ℕ) → atom-lts.Need-enter-requires (atom-claims t) (atom-at t) atom.Post
 atom-enter-requires t c κs = search needs
 
-atom-add-pattern : (t : ℕ) → atom-lts.Need-add-pattern (
-  opening-reads.Asked,
-  opening-reads.Learnt,
-  step-reads.Asked,
-  step-reads.Learnt,
-  enter-reads.Asked,
-  enter-reads.Learnt,
-  pattern-below t,
-  pattern.Post,
-  byte-at-reads.Asked,
-  byte-at-reads.Learnt,
-  leave-reads.Asked,
-  leave-reads.Learnt,
-) (atom-at t) atom.Post
+atom-add-pattern : (t : ℕ) → atom-lts.Need-add-pattern (atom-claims t) (atom-at t) atom.Post
 atom-add-pattern t c = omega (arith, c .before .before .before .before .before .before .enter .ensures .few)
 
-atom-pattern-requires : (t : ℕ) → atom-lts.Need-pattern-requires (
-  opening-reads.Asked,
-  opening-reads.Learnt,
-  step-reads.Asked,
-  step-reads.Learnt,
-  enter-reads.Asked,
-  enter-reads.Learnt,
-  pattern-below t,
-  pattern.Post,
-  byte-at-reads.Asked,
-  byte-at-reads.Learnt,
-  leave-reads.Asked,
-  leave-reads.Learnt,
-) (atom-at t) atom.Post
+atom-pattern-requires : (t : ℕ) → atom-lts.Need-pattern-requires (atom-claims t) (atom-at t) atom.Post
 atom-pattern-requires t c κs = let h = (head-open (c .before .before .before .before .before .before .before .before .before .before .inside .given .1) (c .before .before .before .before .before .before .before .before .before .before .before .before .opening .ensures)) in let f = c .before .before .before .before .before .before .enter .ensures .few in let a = h .opened .past in let b = h .opened .within in search needs
 
-atom-enum-known-place-2 : (t : ℕ) → atom-lts.Need-enum-known-place-2 (
-  opening-reads.Asked,
-  opening-reads.Learnt,
-  step-reads.Asked,
-  step-reads.Learnt,
-  enter-reads.Asked,
-  enter-reads.Learnt,
-  pattern-below t,
-  pattern.Post,
-  byte-at-reads.Asked,
-  byte-at-reads.Learnt,
-  leave-reads.Asked,
-  leave-reads.Learnt,
-) (atom-at t) atom.Post
+atom-enum-known-place-2 : (t : ℕ) → atom-lts.Need-enum-known-place-2 (atom-claims t) (atom-at t) atom.Post
 atom-enum-known-place-2 t c = search needs
 
-atom-enum-known-next-3 : (t : ℕ) → atom-lts.Need-enum-known-next-3 (
-  opening-reads.Asked,
-  opening-reads.Learnt,
-  step-reads.Asked,
-  step-reads.Learnt,
-  enter-reads.Asked,
-  enter-reads.Learnt,
-  pattern-below t,
-  pattern.Post,
-  byte-at-reads.Asked,
-  byte-at-reads.Learnt,
-  leave-reads.Asked,
-  leave-reads.Learnt,
-) (atom-at t) atom.Post
-atom-enum-known-next-3 t c = search needs
+atom-enum-known-part : (t : ℕ) → atom-lts.Need-enum-known-part (atom-claims t) (atom-at t) atom.Post
+atom-enum-known-part t c = search needs
 
-atom-byte-at-requires : (t : ℕ) → atom-lts.Need-byte-at-requires (
-  opening-reads.Asked,
-  opening-reads.Learnt,
-  step-reads.Asked,
-  step-reads.Learnt,
-  enter-reads.Asked,
-  enter-reads.Learnt,
-  pattern-below t,
-  pattern.Post,
-  byte-at-reads.Asked,
-  byte-at-reads.Learnt,
-  leave-reads.Asked,
-  leave-reads.Learnt,
-) (atom-at t) atom.Post
+atom-byte-at-requires : (t : ℕ) → atom-lts.Need-byte-at-requires (atom-claims t) (atom-at t) atom.Post
 atom-byte-at-requires t c κs = search needs
 
-atom-leave-requires : (t : ℕ) → atom-lts.Need-leave-requires (
-  opening-reads.Asked,
-  opening-reads.Learnt,
-  step-reads.Asked,
-  step-reads.Learnt,
-  enter-reads.Asked,
-  enter-reads.Learnt,
-  pattern-below t,
-  pattern.Post,
-  byte-at-reads.Asked,
-  byte-at-reads.Learnt,
-  leave-reads.Asked,
-  leave-reads.Learnt,
-) (atom-at t) atom.Post
-atom-leave-requires t c κs = let q = c .before .before .before .before .before .before .before .before .before .before .before .before .before .before .before .before .before .before .before .before .before .before .before .before .before .before .before .before .pre in let x = c .before .before .before .before .before .before .before .before .before .before .before .before .before .before .before .before .before .before .enter .kept in let y = c .before .before .before .before .before .before .before .before .before .before .before .pattern .kept in let h = (head-open (c .before .before .before .before .before .before .before .before .before .before .before .before .before .before .before .before .before .before .before .before .before .before .inside .given .1) (c .before .before .before .before .before .before .before .before .before .before .before .before .before .before .before .before .before .before .before .before .before .before .before .before .opening .ensures)) in let p = (part (c .before .before .before .before .before .next3 .given .1) (c .before .before .before .before .before .before .before .before .before .before .before .pattern .ensures)) in let a = p .is .few in let b = p .is .within in let d = p .counts in let f = h .opened .past in search needs
-
-atom-add-t46 : (t : ℕ) → atom-lts.Need-add-t46 (
-  opening-reads.Asked,
-  opening-reads.Learnt,
-  step-reads.Asked,
-  step-reads.Learnt,
-  enter-reads.Asked,
-  enter-reads.Learnt,
-  pattern-below t,
-  pattern.Post,
-  byte-at-reads.Asked,
-  byte-at-reads.Learnt,
-  leave-reads.Asked,
-  leave-reads.Learnt,
-) (atom-at t) atom.Post
-atom-add-t46 t c = let q = c .before .before .before .before .before .before .before .before .before .before .before .before .before .before .before .before .before .before .before .before .before .before .before .before .before .before .before .before .before .before .before .before .before .pre in let h = (head-open (c .before .before .before .before .before .before .before .before .before .before .before .before .before .before .before .before .before .before .before .before .before .before .before .before .before .before .before .inside .given .1) (c .before .before .before .before .before .before .before .before .before .before .before .before .before .before .before .before .before .before .before .before .before .before .before .before .before .before .before .before .before .opening .ensures)) in let p = (part (c .before .before .before .before .before .before .before .before .before .before .next3 .given .1) (c .before .before .before .before .before .before .before .before .before .before .before .before .before .before .before .before .pattern .ensures)) in omega (arith, p .is .few, p .is .within, p .is .shallow, p .counts, p .deep, c .before .before .before .before .before .before .before .before .before .before .before .before .before .before .before .before .before .before .before .before .before .before .before .enter .ensures .few, h .opened .past)
-
-atom-add-t47 : (t : ℕ) → atom-lts.Need-add-t47 (
-  opening-reads.Asked,
-  opening-reads.Learnt,
-  step-reads.Asked,
-  step-reads.Learnt,
-  enter-reads.Asked,
-  enter-reads.Learnt,
-  pattern-below t,
-  pattern.Post,
-  byte-at-reads.Asked,
-  byte-at-reads.Learnt,
-  leave-reads.Asked,
-  leave-reads.Learnt,
-) (atom-at t) atom.Post
-atom-add-t47 t c = let q = c .before .before .before .before .before .before .before .before .before .before .before .before .before .before .before .before .before .before .before .before .before .before .before .before .before .before .before .before .before .before .before .before .before .pre in let h = (head-open (c .before .before .before .before .before .before .before .before .before .before .before .before .before .before .before .before .before .before .before .before .before .before .before .before .before .before .before .inside .given .1) (c .before .before .before .before .before .before .before .before .before .before .before .before .before .before .before .before .before .before .before .before .before .before .before .before .before .before .before .before .before .opening .ensures)) in let p = (part (c .before .before .before .before .before .before .before .before .before .before .next3 .given .1) (c .before .before .before .before .before .before .before .before .before .before .before .before .before .before .before .before .pattern .ensures)) in omega (arith, p .is .few, p .is .within, p .is .shallow, p .counts, p .deep, c .before .before .before .before .before .before .before .before .before .before .before .before .before .before .before .before .before .before .before .before .before .before .before .enter .ensures .few, h .opened .past)
-
-atom-add-t48 : (t : ℕ) → atom-lts.Need-add-t48 (
-  opening-reads.Asked,
-  opening-reads.Learnt,
-  step-reads.Asked,
-  step-reads.Learnt,
-  enter-reads.Asked,
-  enter-reads.Learnt,
-  pattern-below t,
-  pattern.Post,
-  byte-at-reads.Asked,
-  byte-at-reads.Learnt,
-  leave-reads.Asked,
-  leave-reads.Learnt,
-) (atom-at t) atom.Post
-atom-add-t48 t c = let q = c .before .before .before .before .before .before .before .before .before .before .before .before .before .before .before .before .before .before .before .before .before .before .before .before .before .before .before .before .before .before .before .before .before .pre in let h = (head-open (c .before .before .before .before .before .before .before .before .before .before .before .before .before .before .before .before .before .before .before .before .before .before .before .before .before .before .before .inside .given .1) (c .before .before .before .before .before .before .before .before .before .before .before .before .before .before .before .before .before .before .before .before .before .before .before .before .before .before .before .before .before .opening .ensures)) in let p = (part (c .before .before .before .before .before .before .before .before .before .before .next3 .given .1) (c .before .before .before .before .before .before .before .before .before .before .before .before .before .before .before .before .pattern .ensures)) in omega (arith, p .is .few, p .is .within, p .is .shallow, p .counts, p .deep, c .before .before .before .before .before .before .before .before .before .before .before .before .before .before .before .before .before .before .before .before .before .before .before .enter .ensures .few, h .opened .past)
-
-atom-add-t49 : (t : ℕ) → atom-lts.Need-add-t49 (
-  opening-reads.Asked,
-  opening-reads.Learnt,
-  step-reads.Asked,
-  step-reads.Learnt,
-  enter-reads.Asked,
-  enter-reads.Learnt,
-  pattern-below t,
-  pattern.Post,
-  byte-at-reads.Asked,
-  byte-at-reads.Learnt,
-  leave-reads.Asked,
-  leave-reads.Learnt,
-) (atom-at t) atom.Post
-atom-add-t49 t c = let q = c .before .before .before .before .before .before .before .before .before .before .before .before .before .before .before .before .before .before .before .before .before .before .before .before .before .before .before .before .before .before .before .before .before .pre in let h = (head-open (c .before .before .before .before .before .before .before .before .before .before .before .before .before .before .before .before .before .before .before .before .before .before .before .before .before .before .before .inside .given .1) (c .before .before .before .before .before .before .before .before .before .before .before .before .before .before .before .before .before .before .before .before .before .before .before .before .before .before .before .before .before .opening .ensures)) in let p = (part (c .before .before .before .before .before .before .before .before .before .before .next3 .given .1) (c .before .before .before .before .before .before .before .before .before .before .before .before .before .before .before .before .pattern .ensures)) in omega (arith, p .is .few, p .is .within, p .is .shallow, p .counts, p .deep, c .before .before .before .before .before .before .before .before .before .before .before .before .before .before .before .before .before .before .before .before .before .before .before .enter .ensures .few, h .opened .past)
-
-atom-returns : (t : ℕ) → atom-lts.Need-returns (
-  opening-reads.Asked,
-  opening-reads.Learnt,
-  step-reads.Asked,
-  step-reads.Learnt,
-  enter-reads.Asked,
-  enter-reads.Learnt,
-  pattern-below t,
-  pattern.Post,
-  byte-at-reads.Asked,
-  byte-at-reads.Learnt,
-  leave-reads.Asked,
-  leave-reads.Learnt,
-) (atom-at t) atom.Post
-atom-returns t c = stuck (head-wrong (c .before .place .given .1) (c .before .before .before .opening .ensures))
-
-atom-returns-2 : (t : ℕ) → atom-lts.Need-returns-2 (
-  opening-reads.Asked,
-  opening-reads.Learnt,
-  step-reads.Asked,
-  step-reads.Learnt,
-  enter-reads.Asked,
-  enter-reads.Learnt,
-  pattern-below t,
-  pattern.Post,
-  byte-at-reads.Asked,
-  byte-at-reads.Learnt,
-  leave-reads.Asked,
-  leave-reads.Learnt,
-) (atom-at t) atom.Post
-atom-returns-2 t c = found (blank-part (head-blank (c .before .next .given .1) (c .before .before .before .opening .ensures)))
-
-atom-same-length : (t : ℕ) → atom-lts.Need-same-length (
-  opening-reads.Asked,
-  opening-reads.Learnt,
-  step-reads.Asked,
-  step-reads.Learnt,
-  enter-reads.Asked,
-  enter-reads.Learnt,
-  pattern-below t,
-  pattern.Post,
-  byte-at-reads.Asked,
-  byte-at-reads.Learnt,
-  leave-reads.Asked,
-  leave-reads.Learnt,
-) (atom-at t) atom.Post
+atom-same-length : (t : ℕ) → atom-lts.Need-same-length (atom-claims t) (atom-at t) atom.Post
 atom-same-length t c = search needs
 
-atom-same-length-2 : (t : ℕ) → atom-lts.Need-same-length-2 (
-  opening-reads.Asked,
-  opening-reads.Learnt,
-  step-reads.Asked,
-  step-reads.Learnt,
-  enter-reads.Asked,
-  enter-reads.Learnt,
-  pattern-below t,
-  pattern.Post,
-  byte-at-reads.Asked,
-  byte-at-reads.Learnt,
-  leave-reads.Asked,
-  leave-reads.Learnt,
-) (atom-at t) atom.Post
+atom-same-length-2 : (t : ℕ) → atom-lts.Need-same-length-2 (atom-claims t) (atom-at t) atom.Post
 atom-same-length-2 t c = search needs
 
-atom-returns-3 : (t : ℕ) → atom-lts.Need-returns-3 (
-  opening-reads.Asked,
-  opening-reads.Learnt,
-  step-reads.Asked,
-  step-reads.Learnt,
-  enter-reads.Asked,
-  enter-reads.Learnt,
-  pattern-below t,
-  pattern.Post,
-  byte-at-reads.Asked,
-  byte-at-reads.Learnt,
-  leave-reads.Asked,
-  leave-reads.Learnt,
-) (atom-at t) atom.Post
-atom-returns-3 t c = found (byte-part (head-byte (c .before .before .before .before .before .before .before .before .next2 .given .1) (c .before .before .before .before .before .before .before .before .before .before .opening .ensures)) (c .before .before .before .before .step .ensures))
+atom-returns : (t : ℕ) → atom-lts.Need-returns (atom-claims t) (atom-at t) atom.Post
+atom-returns t c = stuck (atom-bad-2 ((head-open (c .before .before .before .before .before .before .before .before .before .before .before .before .before .before .before .before .before .before .before .before .inside .given .1) (c .before .before .before .before .before .before .before .before .before .before .before .before .before .before .before .before .before .before .before .before .before .before .opening .ensures)) .opened) ((stands-part (c .before .before .before .part .given .1) (c .before .before .before .before .before .before .before .before .before .pattern .ensures)) .is) (λ q e. c .if1 .taken (c .before .byte-at .ensures ∙ e)))
 
-atom-same-length-3 : (t : ℕ) → atom-lts.Need-same-length-3 (
-  opening-reads.Asked,
-  opening-reads.Learnt,
-  step-reads.Asked,
-  step-reads.Learnt,
-  enter-reads.Asked,
-  enter-reads.Learnt,
-  pattern-below t,
-  pattern.Post,
-  byte-at-reads.Asked,
-  byte-at-reads.Learnt,
-  leave-reads.Asked,
-  leave-reads.Learnt,
-) (atom-at t) atom.Post
+atom-leave-requires : (t : ℕ) → atom-lts.Need-leave-requires (atom-claims t) (atom-at t) atom.Post
+atom-leave-requires t c κs = let q = c .before .before .before .before .before .before .before .before .before .before .before .before .before .before .before .before .before .before .before .before .before .before .before .before .before .before .before .before .pre in let x = c .before .before .before .before .before .before .before .before .before .before .before .before .before .before .before .before .before .before .enter .kept in let y = c .before .before .before .before .before .before .before .before .before .before .before .pattern .kept in let h = (head-open (c .before .before .before .before .before .before .before .before .before .before .before .before .before .before .before .before .before .before .before .before .before .before .inside .given .1) (c .before .before .before .before .before .before .before .before .before .before .before .before .before .before .before .before .before .before .before .before .before .before .before .before .opening .ensures)) in let p = (stands-part (c .before .before .before .before .before .part .given .1) (c .before .before .before .before .before .before .before .before .before .before .before .pattern .ensures)) in let a = p .is .few in let b = p .is .within in let d = p .counts in let f = h .opened .past in search needs
+
+atom-between-requires : (t : ℕ) → atom-lts.Need-between-requires (atom-claims t) (atom-at t) atom.Post
+atom-between-requires t c κs = let q = c .before .before .before .before .before .before .before .before .before .before .before .before .before .before .before .before .before .before .before .before .before .before .before .before .before .before .before .before .before .before .before .before .before .pre in let p = (stands-part (c .before .before .before .before .before .before .before .before .before .before .part .given .1) (c .before .before .before .before .before .before .before .before .before .before .before .before .before .before .before .before .pattern .ensures)) in let a = p .is .few in let b = p .is .within in let d = p .counts in let e = p .is .shallow in let g = p .depth in let f = c .before .before .before .before .before .before .before .before .before .before .before .before .before .before .before .before .before .before .before .before .before .before .before .enter .ensures .few in search needs
+
+atom-returns-2 : (t : ℕ) → atom-lts.Need-returns-2 (atom-claims t) (atom-at t) atom.Post
+atom-returns-2 t c = stuck (head-wrong (c .before .place .given .1) (c .before .before .before .opening .ensures))
+
+atom-returns-3 : (t : ℕ) → atom-lts.Need-returns-3 (atom-claims t) (atom-at t) atom.Post
+atom-returns-3 t c = found-as (c .leaf .ensures) (blank-part (head-blank (c .before .before .next .given .1) (c .before .before .before .before .opening .ensures)))
+
+atom-same-length-3 : (t : ℕ) → atom-lts.Need-same-length-3 (atom-claims t) (atom-at t) atom.Post
 atom-same-length-3 t c = search needs
 
-atom-same-length-4 : (t : ℕ) → atom-lts.Need-same-length-4 (
-  opening-reads.Asked,
-  opening-reads.Learnt,
-  step-reads.Asked,
-  step-reads.Learnt,
-  enter-reads.Asked,
-  enter-reads.Learnt,
-  pattern-below t,
-  pattern.Post,
-  byte-at-reads.Asked,
-  byte-at-reads.Learnt,
-  leave-reads.Asked,
-  leave-reads.Learnt,
-) (atom-at t) atom.Post
+atom-same-length-4 : (t : ℕ) → atom-lts.Need-same-length-4 (atom-claims t) (atom-at t) atom.Post
 atom-same-length-4 t c = search needs
 
-atom-returns-4 : (t : ℕ) → atom-lts.Need-returns-4 (
-  opening-reads.Asked,
-  opening-reads.Learnt,
-  step-reads.Asked,
-  step-reads.Learnt,
-  enter-reads.Asked,
-  enter-reads.Learnt,
-  pattern-below t,
-  pattern.Post,
-  byte-at-reads.Asked,
-  byte-at-reads.Learnt,
-  leave-reads.Asked,
-  leave-reads.Learnt,
-) (atom-at t) atom.Post
-atom-returns-4 t c = stuck (atom-bad ((head-open (c .before .before .before .before .before .before .before .before .before .before .before .before .before .before .before .before .before .before .inside .given .1) (c .before .before .before .before .before .before .before .before .before .before .before .before .before .before .before .before .before .before .before .before .opening .ensures)) .opened) (failed (c .before .place2 .given .1) (c .before .before .before .before .before .before .before .pattern .ensures)))
+atom-returns-4 : (t : ℕ) → atom-lts.Need-returns-4 (atom-claims t) (atom-at t) atom.Post
+atom-returns-4 t c = found-as (c .leaf2 .ensures) (byte-part (head-byte (c .before .before .before .before .before .before .before .before .before .next2 .given .1) (c .before .before .before .before .before .before .before .before .before .before .before .opening .ensures)) (c .before .before .before .before .before .step .ensures))
 
-atom-same-length-5 : (t : ℕ) → atom-lts.Need-same-length-5 (
-  opening-reads.Asked,
-  opening-reads.Learnt,
-  step-reads.Asked,
-  step-reads.Learnt,
-  enter-reads.Asked,
-  enter-reads.Learnt,
-  pattern-below t,
-  pattern.Post,
-  byte-at-reads.Asked,
-  byte-at-reads.Learnt,
-  leave-reads.Asked,
-  leave-reads.Learnt,
-) (atom-at t) atom.Post
+atom-same-length-5 : (t : ℕ) → atom-lts.Need-same-length-5 (atom-claims t) (atom-at t) atom.Post
 atom-same-length-5 t c = search needs
 
-atom-same-length-6 : (t : ℕ) → atom-lts.Need-same-length-6 (
-  opening-reads.Asked,
-  opening-reads.Learnt,
-  step-reads.Asked,
-  step-reads.Learnt,
-  enter-reads.Asked,
-  enter-reads.Learnt,
-  pattern-below t,
-  pattern.Post,
-  byte-at-reads.Asked,
-  byte-at-reads.Learnt,
-  leave-reads.Asked,
-  leave-reads.Learnt,
-) (atom-at t) atom.Post
+atom-same-length-6 : (t : ℕ) → atom-lts.Need-same-length-6 (atom-claims t) (atom-at t) atom.Post
 atom-same-length-6 t c = search needs
 
-atom-returns-5 : (t : ℕ) → atom-lts.Need-returns-5 (
-  opening-reads.Asked,
-  opening-reads.Learnt,
-  step-reads.Asked,
-  step-reads.Learnt,
-  enter-reads.Asked,
-  enter-reads.Learnt,
-  pattern-below t,
-  pattern.Post,
-  byte-at-reads.Asked,
-  byte-at-reads.Learnt,
-  leave-reads.Asked,
-  leave-reads.Learnt,
-) (atom-at t) atom.Post
-atom-returns-5 t c = found (atom-part (head-open (c .before .before .before .before .before .before .before .before .before .before .before .before .before .before .before .before .before .before .before .before .before .before .before .before .before .before .before .inside .given .1) (c .before .before .before .before .before .before .before .before .before .before .before .before .before .before .before .before .before .before .before .before .before .before .before .before .before .before .before .before .before .opening .ensures)) (c .before .before .before .before .before .before .before .before .before .before .before .before .before .before .before .before .before .before .before .before .before .before .before .enter .ensures) (part (c .before .before .before .before .before .before .before .before .before .before .next3 .given .1) (c .before .before .before .before .before .before .before .before .before .before .before .before .before .before .before .before .pattern .ensures)) (sym (c .before .before .before .before .before .before .before .before .byte-at .ensures) ∙ c .before .before .before .before .before .before .before .if1 .taken) (c .before .before .before .before .leave .ensures))
+atom-returns-5 : (t : ℕ) → atom-lts.Need-returns-5 (atom-claims t) (atom-at t) atom.Post
+atom-returns-5 t c = stuck (atom-bad ((head-open (c .before .before .before .before .before .before .before .before .before .before .before .before .before .before .before .before .before .before .inside .given .1) (c .before .before .before .before .before .before .before .before .before .before .before .before .before .before .before .before .before .before .before .before .opening .ensures)) .opened) (failed (c .before .place2 .given .1) (c .before .before .before .before .before .before .before .pattern .ensures)))
 
-atom-same-length-7 : (t : ℕ) → atom-lts.Need-same-length-7 (
-  opening-reads.Asked,
-  opening-reads.Learnt,
-  step-reads.Asked,
-  step-reads.Learnt,
-  enter-reads.Asked,
-  enter-reads.Learnt,
-  pattern-below t,
-  pattern.Post,
-  byte-at-reads.Asked,
-  byte-at-reads.Learnt,
-  leave-reads.Asked,
-  leave-reads.Learnt,
-) (atom-at t) atom.Post
+atom-same-length-7 : (t : ℕ) → atom-lts.Need-same-length-7 (atom-claims t) (atom-at t) atom.Post
 atom-same-length-7 t c = search needs
 
-atom-same-length-8 : (t : ℕ) → atom-lts.Need-same-length-8 (
-  opening-reads.Asked,
-  opening-reads.Learnt,
-  step-reads.Asked,
-  step-reads.Learnt,
-  enter-reads.Asked,
-  enter-reads.Learnt,
-  pattern-below t,
-  pattern.Post,
-  byte-at-reads.Asked,
-  byte-at-reads.Learnt,
-  leave-reads.Asked,
-  leave-reads.Learnt,
-) (atom-at t) atom.Post
+atom-same-length-8 : (t : ℕ) → atom-lts.Need-same-length-8 (atom-claims t) (atom-at t) atom.Post
 atom-same-length-8 t c = search needs
 
-atom-returns-6 : (t : ℕ) → atom-lts.Need-returns-6 (
-  opening-reads.Asked,
-  opening-reads.Learnt,
-  step-reads.Asked,
-  step-reads.Learnt,
-  enter-reads.Asked,
-  enter-reads.Learnt,
-  pattern-below t,
-  pattern.Post,
-  byte-at-reads.Asked,
-  byte-at-reads.Learnt,
-  leave-reads.Asked,
-  leave-reads.Learnt,
-) (atom-at t) atom.Post
-atom-returns-6 t c = stuck (atom-bad-2 ((head-open (c .before .before .before .before .before .before .before .before .before .before .before .before .before .before .before .before .before .before .before .before .inside .given .1) (c .before .before .before .before .before .before .before .before .before .before .before .before .before .before .before .before .before .before .before .before .before .before .opening .ensures)) .opened) ((part (c .before .before .before .next3 .given .1) (c .before .before .before .before .before .before .before .before .before .pattern .ensures)) .is) (λ q e. c .if1 .left (c .before .byte-at .ensures ∙ e)))
+atom-returns-6 : (t : ℕ) → atom-lts.Need-returns-6 (atom-claims t) (atom-at t) atom.Post
+atom-returns-6 t c = found-as (c .between .ensures) (atom-part (head-open (c .before .before .before .before .before .before .before .before .before .before .before .before .before .before .before .before .before .before .before .before .before .before .before .before .before .before .before .before .inside .given .1) (c .before .before .before .before .before .before .before .before .before .before .before .before .before .before .before .before .before .before .before .before .before .before .before .before .before .before .before .before .before .before .opening .ensures)) (c .before .before .before .before .before .before .before .before .before .before .before .before .before .before .before .before .before .before .before .before .before .before .before .before .enter .ensures) (stands-part (c .before .before .before .before .before .before .before .before .before .before .before .part .given .1) (c .before .before .before .before .before .before .before .before .before .before .before .before .before .before .before .before .before .pattern .ensures)) (sym (c .before .before .before .before .before .before .before .before .before .byte-at .ensures) ∙ c .before .before .before .before .before .before .before .before .if1 .left) (c .before .before .before .before .before .leave .ensures))
 
-factor-atom-requires : (t : ℕ) → factor-lts.Need-atom-requires (
-  atom-below t,
-  atom.Post,
-  postfixes-reads.Asked,
-  postfixes-reads.Learnt,
-) (factor-at t) factor.Post
+factor-atom-requires : (t : ℕ) → factor-lts.Need-atom-requires (factor-claims t) (factor-at t) factor.Post
 factor-atom-requires t c κs = search needs
 
-factor-enum-known-place : (t : ℕ) → factor-lts.Need-enum-known-place (
-  atom-below t,
-  atom.Post,
-  postfixes-reads.Asked,
-  postfixes-reads.Learnt,
-) (factor-at t) factor.Post
+factor-enum-known-place : (t : ℕ) → factor-lts.Need-enum-known-place (factor-claims t) (factor-at t) factor.Post
 factor-enum-known-place t c = search needs
 
-factor-enum-known-next : (t : ℕ) → factor-lts.Need-enum-known-next (
-  atom-below t,
-  atom.Post,
-  postfixes-reads.Asked,
-  postfixes-reads.Learnt,
-) (factor-at t) factor.Post
-factor-enum-known-next t c = search needs
+factor-enum-known-part : (t : ℕ) → factor-lts.Need-enum-known-part (factor-claims t) (factor-at t) factor.Post
+factor-enum-known-part t c = search needs
 
-factor-add-postfixes : (t : ℕ) → factor-lts.Need-add-postfixes (
-  atom-below t,
-  atom.Post,
-  postfixes-reads.Asked,
-  postfixes-reads.Learnt,
-) (factor-at t) factor.Post
-factor-add-postfixes t c = let x = (part (c .before .before .next .given .1) (c .before .before .before .before .before .before .before .before .atom .ensures)) in omega (arith, x .is .few, x .is .within, x .counts)
+factor-postfixes-requires : (t : ℕ) → factor-lts.Need-postfixes-requires (factor-claims t) (factor-at t) factor.Post
+factor-postfixes-requires t c κs = let x = (stands-part (c .before .before .part .given .1) (c .before .before .before .before .before .before .before .before .atom .ensures)) in let a = x .is .within in let b = x .is .few in let d = x .counts in search needs
 
-factor-postfixes-requires : (t : ℕ) → factor-lts.Need-postfixes-requires (
-  atom-below t,
-  atom.Post,
-  postfixes-reads.Asked,
-  postfixes-reads.Learnt,
-) (factor-at t) factor.Post
-factor-postfixes-requires t c κs = let x = (part (c .before .before .next .given .1) (c .before .before .before .before .before .before .before .before .atom .ensures)) in let a = x .is .within in search needs
-
-factor-enum-known-place-2 : (t : ℕ) → factor-lts.Need-enum-known-place-2 (
-  atom-below t,
-  atom.Post,
-  postfixes-reads.Asked,
-  postfixes-reads.Learnt,
-) (factor-at t) factor.Post
-factor-enum-known-place-2 t c = search needs
-
-factor-enum-known-end : (t : ℕ) → factor-lts.Need-enum-known-end (
-  atom-below t,
-  atom.Post,
-  postfixes-reads.Asked,
-  postfixes-reads.Learnt,
-) (factor-at t) factor.Post
-factor-enum-known-end t c = search needs
-
-factor-same-length : (t : ℕ) → factor-lts.Need-same-length (
-  atom-below t,
-  atom.Post,
-  postfixes-reads.Asked,
-  postfixes-reads.Learnt,
-) (factor-at t) factor.Post
+factor-same-length : (t : ℕ) → factor-lts.Need-same-length (factor-claims t) (factor-at t) factor.Post
 factor-same-length t c = search needs
 
-factor-same-length-2 : (t : ℕ) → factor-lts.Need-same-length-2 (
-  atom-below t,
-  atom.Post,
-  postfixes-reads.Asked,
-  postfixes-reads.Learnt,
-) (factor-at t) factor.Post
+factor-same-length-2 : (t : ℕ) → factor-lts.Need-same-length-2 (factor-claims t) (factor-at t) factor.Post
 factor-same-length-2 t c = search needs
 
-factor-returns : (t : ℕ) → factor-lts.Need-returns (
-  atom-below t,
-  atom.Post,
-  postfixes-reads.Asked,
-  postfixes-reads.Learnt,
-) (factor-at t) factor.Post
+factor-returns : (t : ℕ) → factor-lts.Need-returns (factor-claims t) (factor-at t) factor.Post
 factor-returns t c = stuck (factor-bad (failed (c .before .place .given .1) (c .before .before .before .before .before .before .before .atom .ensures)))
 
-factor-same-length-3 : (t : ℕ) → factor-lts.Need-same-length-3 (
-  atom-below t,
-  atom.Post,
-  postfixes-reads.Asked,
-  postfixes-reads.Learnt,
-) (factor-at t) factor.Post
+factor-same-length-3 : (t : ℕ) → factor-lts.Need-same-length-3 (factor-claims t) (factor-at t) factor.Post
 factor-same-length-3 t c = search needs
 
-factor-same-length-4 : (t : ℕ) → factor-lts.Need-same-length-4 (
-  atom-below t,
-  atom.Post,
-  postfixes-reads.Asked,
-  postfixes-reads.Learnt,
-) (factor-at t) factor.Post
+factor-same-length-4 : (t : ℕ) → factor-lts.Need-same-length-4 (factor-claims t) (factor-at t) factor.Post
 factor-same-length-4 t c = search needs
 
-factor-returns-2 : (t : ℕ) → factor-lts.Need-returns-2 (
-  atom-below t,
-  atom.Post,
-  postfixes-reads.Asked,
-  postfixes-reads.Learnt,
-) (factor-at t) factor.Post
-factor-returns-2 t c = stuck (factor-bad-2 ((part (c .before .before .before .before .before .before .before .before .next .given .1) (c .before .before .before .before .before .before .before .before .before .before .before .before .before .before .atom .ensures)) .is) (posts-failed (c .before .place2 .given .1) (c .before .before .before .before .before .postfixes .ensures)))
+factor-returns-2 : (t : ℕ) → factor-lts.Need-returns-2 (factor-claims t) (factor-at t) factor.Post
+factor-returns-2 t c = factor-parses (stands-part (c .before .before .before .before .before .part .given .1) (c .before .before .before .before .before .before .before .before .before .before .before .atom .ensures)) (c .before .before .postfixes .ensures)
 
-factor-same-length-5 : (t : ℕ) → factor-lts.Need-same-length-5 (
-  atom-below t,
-  atom.Post,
-  postfixes-reads.Asked,
-  postfixes-reads.Learnt,
-) (factor-at t) factor.Post
-factor-same-length-5 t c = search needs
-
-factor-same-length-6 : (t : ℕ) → factor-lts.Need-same-length-6 (
-  atom-below t,
-  atom.Post,
-  postfixes-reads.Asked,
-  postfixes-reads.Learnt,
-) (factor-at t) factor.Post
-factor-same-length-6 t c = search needs
-
-factor-returns-3 : (t : ℕ) → factor-lts.Need-returns-3 (
-  atom-below t,
-  atom.Post,
-  postfixes-reads.Asked,
-  postfixes-reads.Learnt,
-) (factor-at t) factor.Post
-factor-returns-3 t c = found (factor-part (part (c .before .before .before .before .before .before .before .before .next .given .1) (c .before .before .before .before .before .before .before .before .before .before .before .before .before .before .atom .ensures)) (posts-found (c .before .end .given .1) (c .before .before .before .before .before .postfixes .ensures)))
-
-pattern-term-requires : (t : ℕ) → pattern-lts.Need-term-requires (
-  term-below t,
-  term.Post,
-  byte-at-reads.Asked,
-  byte-at-reads.Learnt,
-  pattern-below t,
-  pattern.Post,
-  lighter-reads.Asked,
-  lighter-reads.Learnt,
-  larger-reads.Asked,
-  larger-reads.Learnt,
-) (pattern-at t) pattern.Post
+pattern-term-requires : (t : ℕ) → pattern-lts.Need-term-requires (pattern-claims t) (pattern-at t) pattern.Post
 pattern-term-requires t c κs = search needs
 
-pattern-enum-known-place : (t : ℕ) → pattern-lts.Need-enum-known-place (
-  term-below t,
-  term.Post,
-  byte-at-reads.Asked,
-  byte-at-reads.Learnt,
-  pattern-below t,
-  pattern.Post,
-  lighter-reads.Asked,
-  lighter-reads.Learnt,
-  larger-reads.Asked,
-  larger-reads.Learnt,
-) (pattern-at t) pattern.Post
+pattern-enum-known-place : (t : ℕ) → pattern-lts.Need-enum-known-place (pattern-claims t) (pattern-at t) pattern.Post
 pattern-enum-known-place t c = search needs
 
-pattern-enum-known-next : (t : ℕ) → pattern-lts.Need-enum-known-next (
-  term-below t,
-  term.Post,
-  byte-at-reads.Asked,
-  byte-at-reads.Learnt,
-  pattern-below t,
-  pattern.Post,
-  lighter-reads.Asked,
-  lighter-reads.Learnt,
-  larger-reads.Asked,
-  larger-reads.Learnt,
-) (pattern-at t) pattern.Post
-pattern-enum-known-next t c = search needs
+pattern-enum-known-part : (t : ℕ) → pattern-lts.Need-enum-known-part (pattern-claims t) (pattern-at t) pattern.Post
+pattern-enum-known-part t c = search needs
 
-pattern-byte-at-requires : (t : ℕ) → pattern-lts.Need-byte-at-requires (
-  term-below t,
-  term.Post,
-  byte-at-reads.Asked,
-  byte-at-reads.Learnt,
-  pattern-below t,
-  pattern.Post,
-  lighter-reads.Asked,
-  lighter-reads.Learnt,
-  larger-reads.Asked,
-  larger-reads.Learnt,
-) (pattern-at t) pattern.Post
+pattern-byte-at-requires : (t : ℕ) → pattern-lts.Need-byte-at-requires (pattern-claims t) (pattern-at t) pattern.Post
 pattern-byte-at-requires t c κs = search needs
 
-pattern-add-pattern : (t : ℕ) → pattern-lts.Need-add-pattern (
-  term-below t,
-  term.Post,
-  byte-at-reads.Asked,
-  byte-at-reads.Learnt,
-  pattern-below t,
-  pattern.Post,
-  lighter-reads.Asked,
-  lighter-reads.Learnt,
-  larger-reads.Asked,
-  larger-reads.Learnt,
-) (pattern-at t) pattern.Post
-pattern-add-pattern t c = let f = (part (c .before .before .before .next .given .1) (c .before .before .before .before .before .before .before .before .before .term .ensures)) in let l = is-stands (c .before .before .before .before .before .before .before .before .before .before .before .before .before .before .before .args .text .now) (c .before .before .before .next .given .0 .0) 124 (sym (c .before .byte-at .ensures) ∙ c .if1 .taken) (omega arith) in omega arith
-
-pattern-add-pattern-2 : (t : ℕ) → pattern-lts.Need-add-pattern-2 (
-  term-below t,
-  term.Post,
-  byte-at-reads.Asked,
-  byte-at-reads.Learnt,
-  pattern-below t,
-  pattern.Post,
-  lighter-reads.Asked,
-  lighter-reads.Learnt,
-  larger-reads.Asked,
-  larger-reads.Learnt,
-) (pattern-at t) pattern.Post
-pattern-add-pattern-2 t c = let f = (part (c .before .before .before .before .before .next .given .1) (c .before .before .before .before .before .before .before .before .before .before .before .term .ensures)) in omega (arith, f .is .few, f .is .within, f .counts)
-
-pattern-pattern-requires : (t : ℕ) → pattern-lts.Need-pattern-requires (
-  term-below t,
-  term.Post,
-  byte-at-reads.Asked,
-  byte-at-reads.Learnt,
-  pattern-below t,
-  pattern.Post,
-  lighter-reads.Asked,
-  lighter-reads.Learnt,
-  larger-reads.Asked,
-  larger-reads.Learnt,
-) (pattern-at t) pattern.Post
-pattern-pattern-requires t c κs = let f = (part (c .before .before .before .before .before .next .given .1) (c .before .before .before .before .before .before .before .before .before .before .before .term .ensures)) in let l = is-stands (c .before .before .before .before .before .before .before .before .before .before .before .before .before .before .before .before .before .args .text .now) (c .before .before .before .before .before .next .given .0 .0) 124 (sym (c .before .before .before .byte-at .ensures) ∙ c .before .before .if1 .taken) (omega arith) in let a = f .is .few in let b = f .counts in let d = f .is .past in search needs
-
-pattern-enum-known-place-2 : (t : ℕ) → pattern-lts.Need-enum-known-place-2 (
-  term-below t,
-  term.Post,
-  byte-at-reads.Asked,
-  byte-at-reads.Learnt,
-  pattern-below t,
-  pattern.Post,
-  lighter-reads.Asked,
-  lighter-reads.Learnt,
-  larger-reads.Asked,
-  larger-reads.Learnt,
-) (pattern-at t) pattern.Post
-pattern-enum-known-place-2 t c = search needs
-
-pattern-enum-known-end : (t : ℕ) → pattern-lts.Need-enum-known-end (
-  term-below t,
-  term.Post,
-  byte-at-reads.Asked,
-  byte-at-reads.Learnt,
-  pattern-below t,
-  pattern.Post,
-  lighter-reads.Asked,
-  lighter-reads.Learnt,
-  larger-reads.Asked,
-  larger-reads.Learnt,
-) (pattern-at t) pattern.Post
-pattern-enum-known-end t c = search needs
-
-pattern-lighter-requires : (t : ℕ) → pattern-lts.Need-lighter-requires (
-  term-below t,
-  term.Post,
-  byte-at-reads.Asked,
-  byte-at-reads.Learnt,
-  pattern-below t,
-  pattern.Post,
-  lighter-reads.Asked,
-  lighter-reads.Learnt,
-  larger-reads.Asked,
-  larger-reads.Learnt,
-) (pattern-at t) pattern.Post
-pattern-lighter-requires t c κs = search needs
-
-pattern-add-t35 : (t : ℕ) → pattern-lts.Need-add-t35 (
-  term-below t,
-  term.Post,
-  byte-at-reads.Asked,
-  byte-at-reads.Learnt,
-  pattern-below t,
-  pattern.Post,
-  lighter-reads.Asked,
-  lighter-reads.Learnt,
-  larger-reads.Asked,
-  larger-reads.Learnt,
-) (pattern-at t) pattern.Post
-pattern-add-t35 t c = let f = (part (c .before .before .before .before .before .before .before .before .before .before .before .before .before .before .next .given .1) (c .before .before .before .before .before .before .before .before .before .before .before .before .before .before .before .before .before .before .before .before .term .ensures)) in let q = (part (c .before .before .end .given .1) (c .before .before .before .before .before .before .before .before .pattern .ensures)) in omega (arith, f .is .few, f .counts, q .is .few, q .counts, q .is .within)
-
-pattern-larger-requires : (t : ℕ) → pattern-lts.Need-larger-requires (
-  term-below t,
-  term.Post,
-  byte-at-reads.Asked,
-  byte-at-reads.Learnt,
-  pattern-below t,
-  pattern.Post,
-  lighter-reads.Asked,
-  lighter-reads.Learnt,
-  larger-reads.Asked,
-  larger-reads.Learnt,
-) (pattern-at t) pattern.Post
-pattern-larger-requires t c κs = search needs
-
-pattern-same-length : (t : ℕ) → pattern-lts.Need-same-length (
-  term-below t,
-  term.Post,
-  byte-at-reads.Asked,
-  byte-at-reads.Learnt,
-  pattern-below t,
-  pattern.Post,
-  lighter-reads.Asked,
-  lighter-reads.Learnt,
-  larger-reads.Asked,
-  larger-reads.Learnt,
-) (pattern-at t) pattern.Post
+pattern-same-length : (t : ℕ) → pattern-lts.Need-same-length (pattern-claims t) (pattern-at t) pattern.Post
 pattern-same-length t c = search needs
 
-pattern-same-length-2 : (t : ℕ) → pattern-lts.Need-same-length-2 (
-  term-below t,
-  term.Post,
-  byte-at-reads.Asked,
-  byte-at-reads.Learnt,
-  pattern-below t,
-  pattern.Post,
-  lighter-reads.Asked,
-  lighter-reads.Learnt,
-  larger-reads.Asked,
-  larger-reads.Learnt,
-) (pattern-at t) pattern.Post
+pattern-same-length-2 : (t : ℕ) → pattern-lts.Need-same-length-2 (pattern-claims t) (pattern-at t) pattern.Post
 pattern-same-length-2 t c = search needs
 
-pattern-returns : (t : ℕ) → pattern-lts.Need-returns (
-  term-below t,
-  term.Post,
-  byte-at-reads.Asked,
-  byte-at-reads.Learnt,
-  pattern-below t,
-  pattern.Post,
-  lighter-reads.Asked,
-  lighter-reads.Learnt,
-  larger-reads.Asked,
-  larger-reads.Learnt,
-) (pattern-at t) pattern.Post
-pattern-returns t c = stuck (pattern-bad (failed (c .before .place .given .1) (c .before .before .before .before .before .before .before .term .ensures)))
+pattern-returns : (t : ℕ) → pattern-lts.Need-returns (pattern-claims t) (pattern-at t) pattern.Post
+pattern-returns t c = found (pattern-part (stands-part (c .before .before .before .part .given .1) (c .before .before .before .before .before .before .before .before .before .term .ensures)) (unlike 124 (c .before .byte-at .ensures) (c .if1 .taken)))
 
-pattern-same-length-3 : (t : ℕ) → pattern-lts.Need-same-length-3 (
-  term-below t,
-  term.Post,
-  byte-at-reads.Asked,
-  byte-at-reads.Learnt,
-  pattern-below t,
-  pattern.Post,
-  lighter-reads.Asked,
-  lighter-reads.Learnt,
-  larger-reads.Asked,
-  larger-reads.Learnt,
-) (pattern-at t) pattern.Post
+pattern-add-pattern : (t : ℕ) → pattern-lts.Need-add-pattern (pattern-claims t) (pattern-at t) pattern.Post
+pattern-add-pattern t c = let f = (stands-part (c .before .before .before .before .part .given .1) (c .before .before .before .before .before .before .before .before .before .before .term .ensures)) in let l = is-stands (c .before .before .before .before .before .before .before .before .before .before .before .before .before .before .before .before .args .text .now) (c .before .before .before .before .part .given .0 .0 .next) 124 (sym (c .before .before .byte-at .ensures) ∙ c .before .if1 .left) (omega arith) in omega arith
+
+pattern-add-pattern-2 : (t : ℕ) → pattern-lts.Need-add-pattern-2 (pattern-claims t) (pattern-at t) pattern.Post
+pattern-add-pattern-2 t c = let f = (stands-part (c .before .before .before .before .before .before .before .part .given .1) (c .before .before .before .before .before .before .before .before .before .before .before .before .before .term .ensures)) in omega (arith, f .is .few, f .is .within, f .counts)
+
+pattern-pattern-requires : (t : ℕ) → pattern-lts.Need-pattern-requires (pattern-claims t) (pattern-at t) pattern.Post
+pattern-pattern-requires t c κs = let f = (stands-part (c .before .before .before .before .before .before .before .part .given .1) (c .before .before .before .before .before .before .before .before .before .before .before .before .before .term .ensures)) in let l = is-stands (c .before .before .before .before .before .before .before .before .before .before .before .before .before .before .before .before .before .before .before .args .text .now) (c .before .before .before .before .before .before .before .part .given .0 .0 .next) 124 (sym (c .before .before .before .before .before .byte-at .ensures) ∙ c .before .before .before .before .if1 .left) (omega arith) in let a = f .is .few in let b = f .counts in let d = f .is .past in search needs
+
+pattern-enum-known-place-2 : (t : ℕ) → pattern-lts.Need-enum-known-place-2 (pattern-claims t) (pattern-at t) pattern.Post
+pattern-enum-known-place-2 t c = search needs
+
+pattern-enum-known-rest : (t : ℕ) → pattern-lts.Need-enum-known-rest (pattern-claims t) (pattern-at t) pattern.Post
+pattern-enum-known-rest t c = search needs
+
+pattern-lighter-requires : (t : ℕ) → pattern-lts.Need-lighter-requires (pattern-claims t) (pattern-at t) pattern.Post
+pattern-lighter-requires t c κs = search needs
+
+pattern-beside-requires : (t : ℕ) → pattern-lts.Need-beside-requires (pattern-claims t) (pattern-at t) pattern.Post
+pattern-beside-requires t c κs = let z = c .before .before .before .before .before .before .before .before .before .before .before .before .before .before .before .before .before .before .before .before .before .before .before .before .before .before .before .before .pre in let f = (stands-part (c .before .before .before .before .before .before .before .before .before .before .before .before .before .before .before .before .part .given .1) (c .before .before .before .before .before .before .before .before .before .before .before .before .before .before .before .before .before .before .before .before .before .before .term .ensures)) in let q = (stands-part (c .before .before .rest .given .1) (c .before .before .before .before .before .before .before .before .pattern .ensures)) in let a = f .is .few in let b = f .counts in let d = q .is .few in let e = q .counts in let g = q .is .within in let h = f .is .past in search needs
+
+pattern-same-length-3 : (t : ℕ) → pattern-lts.Need-same-length-3 (pattern-claims t) (pattern-at t) pattern.Post
 pattern-same-length-3 t c = search needs
 
-pattern-same-length-4 : (t : ℕ) → pattern-lts.Need-same-length-4 (
-  term-below t,
-  term.Post,
-  byte-at-reads.Asked,
-  byte-at-reads.Learnt,
-  pattern-below t,
-  pattern.Post,
-  lighter-reads.Asked,
-  lighter-reads.Learnt,
-  larger-reads.Asked,
-  larger-reads.Learnt,
-) (pattern-at t) pattern.Post
+pattern-same-length-4 : (t : ℕ) → pattern-lts.Need-same-length-4 (pattern-claims t) (pattern-at t) pattern.Post
 pattern-same-length-4 t c = search needs
 
-pattern-returns-2 : (t : ℕ) → pattern-lts.Need-returns-2 (
-  term-below t,
-  term.Post,
-  byte-at-reads.Asked,
-  byte-at-reads.Learnt,
-  pattern-below t,
-  pattern.Post,
-  lighter-reads.Asked,
-  lighter-reads.Learnt,
-  larger-reads.Asked,
-  larger-reads.Learnt,
-) (pattern-at t) pattern.Post
-pattern-returns-2 t c = let e = sym (c .before .before .before .before .before .before .before .before .before .before .before .byte-at .ensures) ∙ c .before .before .before .before .before .before .before .before .before .before .if1 .taken in stuck (pattern-bad-2 ((part (c .before .before .before .before .before .before .before .before .before .before .before .before .before .next .given .1) (c .before .before .before .before .before .before .before .before .before .before .before .before .before .before .before .before .before .before .before .term .ensures)) .is) (is-stands (c .before .before .before .before .before .before .before .before .before .before .before .before .before .before .before .before .before .before .before .before .before .before .before .before .before .args .text .now) (c .before .before .before .before .before .before .before .before .before .before .before .before .before .next .given .0 .0) 124 e (omega arith)) e (failed (c .before .place2 .given .1) (c .before .before .before .before .before .before .before .pattern .ensures)))
+pattern-returns-2 : (t : ℕ) → pattern-lts.Need-returns-2 (pattern-claims t) (pattern-at t) pattern.Post
+pattern-returns-2 t c = stuck (pattern-bad (failed (c .before .place .given .1) (c .before .before .before .before .before .before .before .term .ensures)))
 
-pattern-same-length-5 : (t : ℕ) → pattern-lts.Need-same-length-5 (
-  term-below t,
-  term.Post,
-  byte-at-reads.Asked,
-  byte-at-reads.Learnt,
-  pattern-below t,
-  pattern.Post,
-  lighter-reads.Asked,
-  lighter-reads.Learnt,
-  larger-reads.Asked,
-  larger-reads.Learnt,
-) (pattern-at t) pattern.Post
+pattern-same-length-5 : (t : ℕ) → pattern-lts.Need-same-length-5 (pattern-claims t) (pattern-at t) pattern.Post
 pattern-same-length-5 t c = search needs
 
-pattern-same-length-6 : (t : ℕ) → pattern-lts.Need-same-length-6 (
-  term-below t,
-  term.Post,
-  byte-at-reads.Asked,
-  byte-at-reads.Learnt,
-  pattern-below t,
-  pattern.Post,
-  lighter-reads.Asked,
-  lighter-reads.Learnt,
-  larger-reads.Asked,
-  larger-reads.Learnt,
-) (pattern-at t) pattern.Post
+pattern-same-length-6 : (t : ℕ) → pattern-lts.Need-same-length-6 (pattern-claims t) (pattern-at t) pattern.Post
 pattern-same-length-6 t c = search needs
 
-pattern-returns-3 : (t : ℕ) → pattern-lts.Need-returns-3 (
-  term-below t,
-  term.Post,
-  byte-at-reads.Asked,
-  byte-at-reads.Learnt,
-  pattern-below t,
-  pattern.Post,
-  lighter-reads.Asked,
-  lighter-reads.Learnt,
-  larger-reads.Asked,
-  larger-reads.Learnt,
-) (pattern-at t) pattern.Post
-pattern-returns-3 t c = found (pattern-part-2 (part (c .before .before .before .before .before .before .before .before .before .before .before .before .before .before .before .next .given .1) (c .before .before .before .before .before .before .before .before .before .before .before .before .before .before .before .before .before .before .before .before .before .term .ensures)) (sym (c .before .before .before .before .before .before .before .before .before .before .before .before .before .byte-at .ensures) ∙ c .before .before .before .before .before .before .before .before .before .before .before .before .if1 .taken) (part (c .before .before .before .end .given .1) (c .before .before .before .before .before .before .before .before .before .pattern .ensures)) (c .before .lighter .ensures) (c .larger .ensures))
+pattern-returns-3 : (t : ℕ) → pattern-lts.Need-returns-3 (pattern-claims t) (pattern-at t) pattern.Post
+pattern-returns-3 t c = let e = sym (c .before .before .before .before .before .before .before .before .before .before .before .before .before .byte-at .ensures) ∙ c .before .before .before .before .before .before .before .before .before .before .before .before .if1 .left in stuck (pattern-bad-2 ((stands-part (c .before .before .before .before .before .before .before .before .before .before .before .before .before .before .before .part .given .1) (c .before .before .before .before .before .before .before .before .before .before .before .before .before .before .before .before .before .before .before .before .before .term .ensures)) .is) (is-stands (c .before .before .before .before .before .before .before .before .before .before .before .before .before .before .before .before .before .before .before .before .before .before .before .before .before .before .before .args .text .now) (c .before .before .before .before .before .before .before .before .before .before .before .before .before .before .before .part .given .0 .0 .next) 124 e (omega arith)) e (failed (c .before .place2 .given .1) (c .before .before .before .before .before .before .before .pattern .ensures)))
 
-pattern-same-length-7 : (t : ℕ) → pattern-lts.Need-same-length-7 (
-  term-below t,
-  term.Post,
-  byte-at-reads.Asked,
-  byte-at-reads.Learnt,
-  pattern-below t,
-  pattern.Post,
-  lighter-reads.Asked,
-  lighter-reads.Learnt,
-  larger-reads.Asked,
-  larger-reads.Learnt,
-) (pattern-at t) pattern.Post
-pattern-same-length-7 t c = search needs
+pattern-same-length-7 : (t : ℕ) → pattern-lts.Need-same-length-7 (pattern-claims t) (pattern-at t) pattern.Post
+pattern-same-length-7 t c = let x = c .before .before .before .before .before .before .before .before .before .before .before .before .before .before .before .before .before .before .before .before .before .before .before .term .kept in let y = c .before .before .before .before .before .before .before .before .before .pattern .kept in search needs
 
-pattern-same-length-8 : (t : ℕ) → pattern-lts.Need-same-length-8 (
-  term-below t,
-  term.Post,
-  byte-at-reads.Asked,
-  byte-at-reads.Learnt,
-  pattern-below t,
-  pattern.Post,
-  lighter-reads.Asked,
-  lighter-reads.Learnt,
-  larger-reads.Asked,
-  larger-reads.Learnt,
-) (pattern-at t) pattern.Post
-pattern-same-length-8 t c = search needs
+pattern-same-length-8 : (t : ℕ) → pattern-lts.Need-same-length-8 (pattern-claims t) (pattern-at t) pattern.Post
+pattern-same-length-8 t c = let x = c .before .before .before .before .before .before .before .before .before .before .before .before .before .before .before .before .before .before .before .before .before .before .before .term .kept in let y = c .before .before .before .before .before .before .before .before .before .pattern .kept in search needs
 
-pattern-returns-4 : (t : ℕ) → pattern-lts.Need-returns-4 (
-  term-below t,
-  term.Post,
-  byte-at-reads.Asked,
-  byte-at-reads.Learnt,
-  pattern-below t,
-  pattern.Post,
-  lighter-reads.Asked,
-  lighter-reads.Learnt,
-  larger-reads.Asked,
-  larger-reads.Learnt,
-) (pattern-at t) pattern.Post
-pattern-returns-4 t c = found (pattern-part (part (c .before .before .before .next .given .1) (c .before .before .before .before .before .before .before .before .before .term .ensures)) (unlike 124 (c .before .byte-at .ensures) (c .if1 .left)))
+pattern-returns-4 : (t : ℕ) → pattern-lts.Need-returns-4 (pattern-claims t) (pattern-at t) pattern.Post
+pattern-returns-4 t c = found-as (c .beside .ensures) (pattern-part-2 (stands-part (c .before .before .before .before .before .before .before .before .before .before .before .before .before .before .before .before .before .part .given .1) (c .before .before .before .before .before .before .before .before .before .before .before .before .before .before .before .before .before .before .before .before .before .before .before .term .ensures)) (sym (c .before .before .before .before .before .before .before .before .before .before .before .before .before .before .before .byte-at .ensures) ∙ c .before .before .before .before .before .before .before .before .before .before .before .before .before .before .if1 .left) (stands-part (c .before .before .before .rest .given .1) (c .before .before .before .before .before .before .before .before .before .pattern .ensures)) (c .before .lighter .ensures))
 
-term-factor-requires : (t : ℕ) → term-lts.Need-factor-requires (
-  factor-below t,
-  factor.Post,
-  byte-at-reads.Asked,
-  byte-at-reads.Learnt,
-  begins-reads.Asked,
-  begins-reads.Learnt,
-  term-below t,
-  term.Post,
-  join-reads.Asked,
-  join-reads.Learnt,
-  larger-reads.Asked,
-  larger-reads.Learnt,
-) (term-at t) term.Post
+term-factor-requires : (t : ℕ) → term-lts.Need-factor-requires (term-claims t) (term-at t) term.Post
 term-factor-requires t c κs = search needs
 
-term-enum-known-place : (t : ℕ) → term-lts.Need-enum-known-place (
-  factor-below t,
-  factor.Post,
-  byte-at-reads.Asked,
-  byte-at-reads.Learnt,
-  begins-reads.Asked,
-  begins-reads.Learnt,
-  term-below t,
-  term.Post,
-  join-reads.Asked,
-  join-reads.Learnt,
-  larger-reads.Asked,
-  larger-reads.Learnt,
-) (term-at t) term.Post
+term-enum-known-place : (t : ℕ) → term-lts.Need-enum-known-place (term-claims t) (term-at t) term.Post
 term-enum-known-place t c = search needs
 
-term-enum-known-next : (t : ℕ) → term-lts.Need-enum-known-next (
-  factor-below t,
-  factor.Post,
-  byte-at-reads.Asked,
-  byte-at-reads.Learnt,
-  begins-reads.Asked,
-  begins-reads.Learnt,
-  term-below t,
-  term.Post,
-  join-reads.Asked,
-  join-reads.Learnt,
-  larger-reads.Asked,
-  larger-reads.Learnt,
-) (term-at t) term.Post
-term-enum-known-next t c = search needs
+term-enum-known-part : (t : ℕ) → term-lts.Need-enum-known-part (term-claims t) (term-at t) term.Post
+term-enum-known-part t c = search needs
 
-term-byte-at-requires : (t : ℕ) → term-lts.Need-byte-at-requires (
-  factor-below t,
-  factor.Post,
-  byte-at-reads.Asked,
-  byte-at-reads.Learnt,
-  begins-reads.Asked,
-  begins-reads.Learnt,
-  term-below t,
-  term.Post,
-  join-reads.Asked,
-  join-reads.Learnt,
-  larger-reads.Asked,
-  larger-reads.Learnt,
-) (term-at t) term.Post
+term-byte-at-requires : (t : ℕ) → term-lts.Need-byte-at-requires (term-claims t) (term-at t) term.Post
 term-byte-at-requires t c κs = search needs
 
-term-begins-requires : (t : ℕ) → term-lts.Need-begins-requires (
-  factor-below t,
-  factor.Post,
-  byte-at-reads.Asked,
-  byte-at-reads.Learnt,
-  begins-reads.Asked,
-  begins-reads.Learnt,
-  term-below t,
-  term.Post,
-  join-reads.Asked,
-  join-reads.Learnt,
-  larger-reads.Asked,
-  larger-reads.Learnt,
-) (term-at t) term.Post
+term-begins-requires : (t : ℕ) → term-lts.Need-begins-requires (term-claims t) (term-at t) term.Post
 term-begins-requires t c κs = search needs
 
-term-add-term : (t : ℕ) → term-lts.Need-add-term (
-  factor-below t,
-  factor.Post,
-  byte-at-reads.Asked,
-  byte-at-reads.Learnt,
-  begins-reads.Asked,
-  begins-reads.Learnt,
-  term-below t,
-  term.Post,
-  join-reads.Asked,
-  join-reads.Learnt,
-  larger-reads.Asked,
-  larger-reads.Learnt,
-) (term-at t) term.Post
-term-add-term t c = let f = (part (c .before .before .before .before .before .before .next .given .1) (c .before .before .before .before .before .before .before .before .before .before .before .before .factor .ensures)) in omega (arith, f .is .few, f .is .within, f .counts)
-
-term-term-requires : (t : ℕ) → term-lts.Need-term-requires (
-  factor-below t,
-  factor.Post,
-  byte-at-reads.Asked,
-  byte-at-reads.Learnt,
-  begins-reads.Asked,
-  begins-reads.Learnt,
-  term-below t,
-  term.Post,
-  join-reads.Asked,
-  join-reads.Learnt,
-  larger-reads.Asked,
-  larger-reads.Learnt,
-) (term-at t) term.Post
-term-term-requires t c κs = let f = (part (c .before .before .before .before .before .before .next .given .1) (c .before .before .before .before .before .before .before .before .before .before .before .before .factor .ensures)) in let a = f .is .few in let b = f .counts in let d = f .is .past in let e = f .is .within in search needs
-
-term-enum-known-place-2 : (t : ℕ) → term-lts.Need-enum-known-place-2 (
-  factor-below t,
-  factor.Post,
-  byte-at-reads.Asked,
-  byte-at-reads.Learnt,
-  begins-reads.Asked,
-  begins-reads.Learnt,
-  term-below t,
-  term.Post,
-  join-reads.Asked,
-  join-reads.Learnt,
-  larger-reads.Asked,
-  larger-reads.Learnt,
-) (term-at t) term.Post
-term-enum-known-place-2 t c = search needs
-
-term-enum-known-end : (t : ℕ) → term-lts.Need-enum-known-end (
-  factor-below t,
-  factor.Post,
-  byte-at-reads.Asked,
-  byte-at-reads.Learnt,
-  begins-reads.Asked,
-  begins-reads.Learnt,
-  term-below t,
-  term.Post,
-  join-reads.Asked,
-  join-reads.Learnt,
-  larger-reads.Asked,
-  larger-reads.Learnt,
-) (term-at t) term.Post
-term-enum-known-end t c = search needs
-
-term-add-join : (t : ℕ) → term-lts.Need-add-join (
-  factor-below t,
-  factor.Post,
-  byte-at-reads.Asked,
-  byte-at-reads.Learnt,
-  begins-reads.Asked,
-  begins-reads.Learnt,
-  term-below t,
-  term.Post,
-  join-reads.Asked,
-  join-reads.Learnt,
-  larger-reads.Asked,
-  larger-reads.Learnt,
-) (term-at t) term.Post
-term-add-join t c = let q = c .before .before .before .before .before .before .before .before .before .before .before .before .before .before .before .before .before .before .before .before .before .before .before .before .before .before .before .pre in let f = (part (c .before .before .before .before .before .before .before .before .before .before .before .before .before .before .before .next .given .1) (c .before .before .before .before .before .before .before .before .before .before .before .before .before .before .before .before .before .before .before .before .before .factor .ensures)) in omega (arith, f .is .few, f .is .within, f .counts)
-
-term-join-requires : (t : ℕ) → term-lts.Need-join-requires (
-  factor-below t,
-  factor.Post,
-  byte-at-reads.Asked,
-  byte-at-reads.Learnt,
-  begins-reads.Asked,
-  begins-reads.Learnt,
-  term-below t,
-  term.Post,
-  join-reads.Asked,
-  join-reads.Learnt,
-  larger-reads.Asked,
-  larger-reads.Learnt,
-) (term-at t) term.Post
-term-join-requires t c κs = let q = c .before .before .before .before .before .before .before .before .before .before .before .before .before .before .before .before .before .before .before .before .before .before .before .before .before .before .before .pre in let x = c .before .before .before .before .before .before .before .before .before .before .before .before .before .before .before .before .before .before .before .before .before .factor .kept in let y = c .before .before .before .before .before .before .before .before .term .kept in search needs
-
-term-add-t36 : (t : ℕ) → term-lts.Need-add-t36 (
-  factor-below t,
-  factor.Post,
-  byte-at-reads.Asked,
-  byte-at-reads.Learnt,
-  begins-reads.Asked,
-  begins-reads.Learnt,
-  term-below t,
-  term.Post,
-  join-reads.Asked,
-  join-reads.Learnt,
-  larger-reads.Asked,
-  larger-reads.Learnt,
-) (term-at t) term.Post
-term-add-t36 t c = let f = (part (c .before .before .before .before .before .before .before .before .before .before .before .before .before .before .before .before .before .before .next .given .1) (c .before .before .before .before .before .before .before .before .before .before .before .before .before .before .before .before .before .before .before .before .before .before .before .before .factor .ensures)) in let q = (part (c .before .before .before .before .before .end .given .1) (c .before .before .before .before .before .before .before .before .before .before .before .term .ensures)) in omega (arith, f .is .few, f .counts, q .is .few, q .counts, q .is .within)
-
-term-larger-requires : (t : ℕ) → term-lts.Need-larger-requires (
-  factor-below t,
-  factor.Post,
-  byte-at-reads.Asked,
-  byte-at-reads.Learnt,
-  begins-reads.Asked,
-  begins-reads.Learnt,
-  term-below t,
-  term.Post,
-  join-reads.Asked,
-  join-reads.Learnt,
-  larger-reads.Asked,
-  larger-reads.Learnt,
-) (term-at t) term.Post
-term-larger-requires t c κs = search needs
-
-term-same-length : (t : ℕ) → term-lts.Need-same-length (
-  factor-below t,
-  factor.Post,
-  byte-at-reads.Asked,
-  byte-at-reads.Learnt,
-  begins-reads.Asked,
-  begins-reads.Learnt,
-  term-below t,
-  term.Post,
-  join-reads.Asked,
-  join-reads.Learnt,
-  larger-reads.Asked,
-  larger-reads.Learnt,
-) (term-at t) term.Post
+term-same-length : (t : ℕ) → term-lts.Need-same-length (term-claims t) (term-at t) term.Post
 term-same-length t c = search needs
 
-term-same-length-2 : (t : ℕ) → term-lts.Need-same-length-2 (
-  factor-below t,
-  factor.Post,
-  byte-at-reads.Asked,
-  byte-at-reads.Learnt,
-  begins-reads.Asked,
-  begins-reads.Learnt,
-  term-below t,
-  term.Post,
-  join-reads.Asked,
-  join-reads.Learnt,
-  larger-reads.Asked,
-  larger-reads.Learnt,
-) (term-at t) term.Post
+term-same-length-2 : (t : ℕ) → term-lts.Need-same-length-2 (term-claims t) (term-at t) term.Post
 term-same-length-2 t c = search needs
 
-term-returns : (t : ℕ) → term-lts.Need-returns (
-  factor-below t,
-  factor.Post,
-  byte-at-reads.Asked,
-  byte-at-reads.Learnt,
-  begins-reads.Asked,
-  begins-reads.Learnt,
-  term-below t,
-  term.Post,
-  join-reads.Asked,
-  join-reads.Learnt,
-  larger-reads.Asked,
-  larger-reads.Learnt,
-) (term-at t) term.Post
-term-returns t c = stuck (term-bad (failed (c .before .place .given .1) (c .before .before .before .before .before .before .before .factor .ensures)))
+term-returns : (t : ℕ) → term-lts.Need-returns (term-claims t) (term-at t) term.Post
+term-returns t c = found (term-part (stands-part (c .before .before .before .before .part .given .1) (c .before .before .before .before .before .before .before .before .before .before .factor .ensures)) (seen (starts (c .before .before .before .before .before .before .before .before .before .before .before .before .before .before .before .before .args .k)) (c .before .before .byte-at .ensures) (c .before .begins .ensures) (not-true (c .before .begins .result) (c .if1 .taken))))
 
-term-same-length-3 : (t : ℕ) → term-lts.Need-same-length-3 (
-  factor-below t,
-  factor.Post,
-  byte-at-reads.Asked,
-  byte-at-reads.Learnt,
-  begins-reads.Asked,
-  begins-reads.Learnt,
-  term-below t,
-  term.Post,
-  join-reads.Asked,
-  join-reads.Learnt,
-  larger-reads.Asked,
-  larger-reads.Learnt,
-) (term-at t) term.Post
+term-add-mid : (t : ℕ) → term-lts.Need-add-mid (term-claims t) (term-at t) term.Post
+term-add-mid t c = let f = (stands-part (c .before .before .before .before .before .part .given .1) (c .before .before .before .before .before .before .before .before .before .before .before .factor .ensures)) in omega (arith, f .is .few, f .is .within, f .counts)
+
+term-term-requires : (t : ℕ) → term-lts.Need-term-requires (term-claims t) (term-at t) term.Post
+term-term-requires t c κs = let f = (stands-part (c .before .before .before .before .before .before .before .part .given .1) (c .before .before .before .before .before .before .before .before .before .before .before .before .before .factor .ensures)) in let a = f .is .few in let b = f .counts in let d = f .is .past in let e = f .is .within in search needs
+
+term-enum-known-place-2 : (t : ℕ) → term-lts.Need-enum-known-place-2 (term-claims t) (term-at t) term.Post
+term-enum-known-place-2 t c = search needs
+
+term-enum-known-rest : (t : ℕ) → term-lts.Need-enum-known-rest (term-claims t) (term-at t) term.Post
+term-enum-known-rest t c = search needs
+
+term-join-requires : (t : ℕ) → term-lts.Need-join-requires (term-claims t) (term-at t) term.Post
+term-join-requires t c κs = let q = c .before .before .before .before .before .before .before .before .before .before .before .before .before .before .before .before .before .before .before .before .before .before .before .before .before .before .before .before .pre in let x = c .before .before .before .before .before .before .before .before .before .before .before .before .before .before .before .before .before .before .before .before .before .before .factor .kept in let y = c .before .before .before .before .before .before .before .before .term .kept in search needs
+
+term-beside-requires : (t : ℕ) → term-lts.Need-beside-requires (term-claims t) (term-at t) term.Post
+term-beside-requires t c κs = let z = c .before .before .before .before .before .before .before .before .before .before .before .before .before .before .before .before .before .before .before .before .before .before .before .before .before .before .before .before .before .before .before .pre in let f = (stands-part (c .before .before .before .before .before .before .before .before .before .before .before .before .before .before .before .before .before .before .before .part .given .1) (c .before .before .before .before .before .before .before .before .before .before .before .before .before .before .before .before .before .before .before .before .before .before .before .before .before .factor .ensures)) in let q = (stands-part (c .before .before .before .before .before .rest .given .1) (c .before .before .before .before .before .before .before .before .before .before .before .term .ensures)) in let a = f .is .few in let b = f .counts in let d = q .is .few in let e = q .counts in let g = q .is .within in let h = f .is .past in search needs
+
+term-same-length-3 : (t : ℕ) → term-lts.Need-same-length-3 (term-claims t) (term-at t) term.Post
 term-same-length-3 t c = search needs
 
-term-same-length-4 : (t : ℕ) → term-lts.Need-same-length-4 (
-  factor-below t,
-  factor.Post,
-  byte-at-reads.Asked,
-  byte-at-reads.Learnt,
-  begins-reads.Asked,
-  begins-reads.Learnt,
-  term-below t,
-  term.Post,
-  join-reads.Asked,
-  join-reads.Learnt,
-  larger-reads.Asked,
-  larger-reads.Learnt,
-) (term-at t) term.Post
+term-same-length-4 : (t : ℕ) → term-lts.Need-same-length-4 (term-claims t) (term-at t) term.Post
 term-same-length-4 t c = search needs
 
-term-returns-2 : (t : ℕ) → term-lts.Need-returns-2 (
-  factor-below t,
-  factor.Post,
-  byte-at-reads.Asked,
-  byte-at-reads.Learnt,
-  begins-reads.Asked,
-  begins-reads.Learnt,
-  term-below t,
-  term.Post,
-  join-reads.Asked,
-  join-reads.Learnt,
-  larger-reads.Asked,
-  larger-reads.Learnt,
-) (term-at t) term.Post
-term-returns-2 t c = let b = (seen (starts (c .before .before .before .before .before .before .before .before .before .before .before .before .before .before .before .before .before .before .before .before .before .before .before .before .before .before .args .k)) (c .before .before .before .before .before .before .before .before .before .before .before .before .byte-at .ensures) (c .before .before .before .before .before .before .before .before .before .before .before .begins .ensures) (c .before .before .before .before .before .before .before .before .before .before .if1 .taken)) in stuck (term-bad-2 ((part (c .before .before .before .before .before .before .before .before .before .before .before .before .before .before .next .given .1) (c .before .before .before .before .before .before .before .before .before .before .before .before .before .before .before .before .before .before .before .before .factor .ensures)) .is) (starts-stands (c .before .before .before .before .before .before .before .before .before .before .before .before .before .before .before .before .before .before .before .before .before .before .before .before .before .before .args .k) (c .before .before .before .before .before .before .before .before .before .before .before .before .before .before .before .before .before .before .before .before .before .before .before .before .before .before .args .text .now) (c .before .before .before .before .before .before .before .before .before .before .before .before .before .before .next .given .0 .0) b) b (failed (c .before .place2 .given .1) (c .before .before .before .before .before .before .before .term .ensures)))
+term-returns-2 : (t : ℕ) → term-lts.Need-returns-2 (term-claims t) (term-at t) term.Post
+term-returns-2 t c = stuck (term-bad (failed (c .before .place .given .1) (c .before .before .before .before .before .before .before .factor .ensures)))
 
-term-same-length-5 : (t : ℕ) → term-lts.Need-same-length-5 (
-  factor-below t,
-  factor.Post,
-  byte-at-reads.Asked,
-  byte-at-reads.Learnt,
-  begins-reads.Asked,
-  begins-reads.Learnt,
-  term-below t,
-  term.Post,
-  join-reads.Asked,
-  join-reads.Learnt,
-  larger-reads.Asked,
-  larger-reads.Learnt,
-) (term-at t) term.Post
+term-same-length-5 : (t : ℕ) → term-lts.Need-same-length-5 (term-claims t) (term-at t) term.Post
 term-same-length-5 t c = search needs
 
-term-same-length-6 : (t : ℕ) → term-lts.Need-same-length-6 (
-  factor-below t,
-  factor.Post,
-  byte-at-reads.Asked,
-  byte-at-reads.Learnt,
-  begins-reads.Asked,
-  begins-reads.Learnt,
-  term-below t,
-  term.Post,
-  join-reads.Asked,
-  join-reads.Learnt,
-  larger-reads.Asked,
-  larger-reads.Learnt,
-) (term-at t) term.Post
+term-same-length-6 : (t : ℕ) → term-lts.Need-same-length-6 (term-claims t) (term-at t) term.Post
 term-same-length-6 t c = search needs
 
-term-returns-3 : (t : ℕ) → term-lts.Need-returns-3 (
-  factor-below t,
-  factor.Post,
-  byte-at-reads.Asked,
-  byte-at-reads.Learnt,
-  begins-reads.Asked,
-  begins-reads.Learnt,
-  term-below t,
-  term.Post,
-  join-reads.Asked,
-  join-reads.Learnt,
-  larger-reads.Asked,
-  larger-reads.Learnt,
-) (term-at t) term.Post
-term-returns-3 t c = found (term-part-2 (part (c .before .before .before .before .before .before .before .before .before .before .before .before .before .before .before .before .before .before .before .next .given .1) (c .before .before .before .before .before .before .before .before .before .before .before .before .before .before .before .before .before .before .before .before .before .before .before .before .before .factor .ensures)) (part (c .before .before .before .before .before .before .end .given .1) (c .before .before .before .before .before .before .before .before .before .before .before .before .term .ensures)) (c .before .before .before .join .ensures .1) (c .before .before .before .join .ensures .0) (c .larger .ensures))
+term-returns-3 : (t : ℕ) → term-lts.Need-returns-3 (term-claims t) (term-at t) term.Post
+term-returns-3 t c = let b = (seen (starts (c .before .before .before .before .before .before .before .before .before .before .before .before .before .before .before .before .before .before .before .before .before .before .before .before .before .before .before .args .k)) (c .before .before .before .before .before .before .before .before .before .before .before .before .before .byte-at .ensures) (c .before .before .before .before .before .before .before .before .before .before .before .before .begins .ensures) (not-false (c .before .before .before .before .before .before .before .before .before .before .before .before .begins .result) (c .before .before .before .before .before .before .before .before .before .before .before .if1 .left))) in stuck (term-bad-2 ((stands-part (c .before .before .before .before .before .before .before .before .before .before .before .before .before .before .before .part .given .1) (c .before .before .before .before .before .before .before .before .before .before .before .before .before .before .before .before .before .before .before .before .before .factor .ensures)) .is) (starts-stands (c .before .before .before .before .before .before .before .before .before .before .before .before .before .before .before .before .before .before .before .before .before .before .before .before .before .before .before .args .k) (c .before .before .before .before .before .before .before .before .before .before .before .before .before .before .before .before .before .before .before .before .before .before .before .before .before .before .before .args .text .now) (c .before .before .before .before .before .before .before .before .before .before .before .before .before .before .before .part .given .0 .0 .next) b) b (failed (c .before .place2 .given .1) (c .before .before .before .before .before .before .before .term .ensures)))
 
-term-same-length-7 : (t : ℕ) → term-lts.Need-same-length-7 (
-  factor-below t,
-  factor.Post,
-  byte-at-reads.Asked,
-  byte-at-reads.Learnt,
-  begins-reads.Asked,
-  begins-reads.Learnt,
-  term-below t,
-  term.Post,
-  join-reads.Asked,
-  join-reads.Learnt,
-  larger-reads.Asked,
-  larger-reads.Learnt,
-) (term-at t) term.Post
-term-same-length-7 t c = search needs
+term-same-length-7 : (t : ℕ) → term-lts.Need-same-length-7 (term-claims t) (term-at t) term.Post
+term-same-length-7 t c = let z = c .before .before .before .join .kept in let x = c .before .before .before .before .before .before .before .before .before .before .before .before .before .before .before .before .before .before .before .before .before .before .before .before .before .before .factor .kept in let y = c .before .before .before .before .before .before .before .before .before .before .before .before .term .kept in search needs
 
-term-same-length-8 : (t : ℕ) → term-lts.Need-same-length-8 (
-  factor-below t,
-  factor.Post,
-  byte-at-reads.Asked,
-  byte-at-reads.Learnt,
-  begins-reads.Asked,
-  begins-reads.Learnt,
-  term-below t,
-  term.Post,
-  join-reads.Asked,
-  join-reads.Learnt,
-  larger-reads.Asked,
-  larger-reads.Learnt,
-) (term-at t) term.Post
-term-same-length-8 t c = search needs
+term-same-length-8 : (t : ℕ) → term-lts.Need-same-length-8 (term-claims t) (term-at t) term.Post
+term-same-length-8 t c = let z = c .before .before .before .join .kept in let x = c .before .before .before .before .before .before .before .before .before .before .before .before .before .before .before .before .before .before .before .before .before .before .before .before .before .before .factor .kept in let y = c .before .before .before .before .before .before .before .before .before .before .before .before .term .kept in search needs
 
-term-returns-4 : (t : ℕ) → term-lts.Need-returns-4 (
-  factor-below t,
-  factor.Post,
-  byte-at-reads.Asked,
-  byte-at-reads.Learnt,
-  begins-reads.Asked,
-  begins-reads.Learnt,
-  term-below t,
-  term.Post,
-  join-reads.Asked,
-  join-reads.Learnt,
-  larger-reads.Asked,
-  larger-reads.Learnt,
-) (term-at t) term.Post
-term-returns-4 t c = found (term-part (part (c .before .before .before .before .next .given .1) (c .before .before .before .before .before .before .before .before .before .before .factor .ensures)) (seen (starts (c .before .before .before .before .before .before .before .before .before .before .before .before .before .before .before .before .args .k)) (c .before .before .byte-at .ensures) (c .before .begins .ensures) (c .if1 .left)))
+term-returns-4 : (t : ℕ) → term-lts.Need-returns-4 (term-claims t) (term-at t) term.Post
+term-returns-4 t c = found-as (c .beside .ensures) (term-part-2 (stands-part (c .before .before .before .before .before .before .before .before .before .before .before .before .before .before .before .before .before .before .before .before .part .given .1) (c .before .before .before .before .before .before .before .before .before .before .before .before .before .before .before .before .before .before .before .before .before .before .before .before .before .before .factor .ensures)) (stands-part (c .before .before .before .before .before .before .rest .given .1) (c .before .before .before .before .before .before .before .before .before .before .before .before .term .ensures)) (c .before .before .before .join .ensures .1) (c .before .before .before .join .ensures .0))
 
 pub +atom+factor+pattern+term-spec : {M : Type 1} → statement M
-+atom+factor+pattern+term-spec = close μ-atom μ-factor μ-pattern μ-term (λ t. atom-lts.spec (
-  opening-reads.Asked,
-  opening-reads.Learnt,
-  step-reads.Asked,
-  step-reads.Learnt,
-  enter-reads.Asked,
-  enter-reads.Learnt,
-  pattern-below t,
-  pattern.Post,
-  byte-at-reads.Asked,
-  byte-at-reads.Learnt,
-  leave-reads.Asked,
-  leave-reads.Learnt,
-)
-    (atom-at t)
++atom+factor+pattern+term-spec = close μ-atom μ-factor μ-pattern μ-term (λ t. atom-lts.spec (atom-claims t) (atom-at t)
     atom.Post
     (atom-opening-requires t)
     (atom-enum-known-place t)
     (atom-enum-known-next t)
+    (atom-leaf-requires t)
     (atom-enum-known-next-2 t)
     (atom-step-requires t)
+    (atom-leaf-requires-2 t)
     (atom-enum-known-inside t)
     (atom-enter-requires t)
     (atom-add-pattern t)
     (atom-pattern-requires t)
     (atom-enum-known-place-2 t)
-    (atom-enum-known-next-3 t)
+    (atom-enum-known-part t)
     (atom-byte-at-requires t)
-    (atom-leave-requires t)
-    (atom-add-t46 t)
-    (atom-add-t47 t)
-    (atom-add-t48 t)
-    (atom-add-t49 t)
-    (atom-returns t)
-    (atom-returns-2 t)
     (atom-same-length t)
     (atom-same-length-2 t)
+    (atom-returns t)
+    (atom-leave-requires t)
+    (atom-between-requires t)
+    (atom-returns-2 t)
     (atom-returns-3 t)
     (atom-same-length-3 t)
     (atom-same-length-4 t)
@@ -1482,55 +380,34 @@ pub +atom+factor+pattern+term-spec : {M : Type 1} → statement M
     (atom-same-length-7 t)
     (atom-same-length-8 t)
     (atom-returns-6 t))
-    (λ t. factor-lts.spec
-    (atom-below t, atom.Post, postfixes-reads.Asked, postfixes-reads.Learnt)
-    (factor-at t)
+    (λ t. factor-lts.spec (factor-claims t) (factor-at t)
     factor.Post
     (factor-atom-requires t)
     (factor-enum-known-place t)
-    (factor-enum-known-next t)
-    (factor-add-postfixes t)
+    (factor-enum-known-part t)
     (factor-postfixes-requires t)
-    (factor-enum-known-place-2 t)
-    (factor-enum-known-end t)
     (factor-same-length t)
     (factor-same-length-2 t)
     (factor-returns t)
     (factor-same-length-3 t)
     (factor-same-length-4 t)
-    (factor-returns-2 t)
-    (factor-same-length-5 t)
-    (factor-same-length-6 t)
-    (factor-returns-3 t))
-    (λ t. pattern-lts.spec (
-      term-below t,
-      term.Post,
-      byte-at-reads.Asked,
-      byte-at-reads.Learnt,
-      pattern-below t,
-      pattern.Post,
-      lighter-reads.Asked,
-      lighter-reads.Learnt,
-      larger-reads.Asked,
-      larger-reads.Learnt,
-    )
-    (pattern-at t)
+    (factor-returns-2 t))
+    (λ t. pattern-lts.spec (pattern-claims t) (pattern-at t)
     pattern.Post
     (pattern-term-requires t)
     (pattern-enum-known-place t)
-    (pattern-enum-known-next t)
+    (pattern-enum-known-part t)
     (pattern-byte-at-requires t)
+    (pattern-same-length t)
+    (pattern-same-length-2 t)
+    (pattern-returns t)
     (pattern-add-pattern t)
     (pattern-add-pattern-2 t)
     (pattern-pattern-requires t)
     (pattern-enum-known-place-2 t)
-    (pattern-enum-known-end t)
+    (pattern-enum-known-rest t)
     (pattern-lighter-requires t)
-    (pattern-add-t35 t)
-    (pattern-larger-requires t)
-    (pattern-same-length t)
-    (pattern-same-length-2 t)
-    (pattern-returns t)
+    (pattern-beside-requires t)
     (pattern-same-length-3 t)
     (pattern-same-length-4 t)
     (pattern-returns-2 t)
@@ -1540,38 +417,22 @@ pub +atom+factor+pattern+term-spec : {M : Type 1} → statement M
     (pattern-same-length-7 t)
     (pattern-same-length-8 t)
     (pattern-returns-4 t))
-    λ t. term-lts.spec (
-      factor-below t,
-      factor.Post,
-      byte-at-reads.Asked,
-      byte-at-reads.Learnt,
-      begins-reads.Asked,
-      begins-reads.Learnt,
-      term-below t,
-      term.Post,
-      join-reads.Asked,
-      join-reads.Learnt,
-      larger-reads.Asked,
-      larger-reads.Learnt,
-    )
-    (term-at t)
+    λ t. term-lts.spec (term-claims t) (term-at t)
     term.Post
     (term-factor-requires t)
     (term-enum-known-place t)
-    (term-enum-known-next t)
+    (term-enum-known-part t)
     (term-byte-at-requires t)
     (term-begins-requires t)
-    (term-add-term t)
-    (term-term-requires t)
-    (term-enum-known-place-2 t)
-    (term-enum-known-end t)
-    (term-add-join t)
-    (term-join-requires t)
-    (term-add-t36 t)
-    (term-larger-requires t)
     (term-same-length t)
     (term-same-length-2 t)
     (term-returns t)
+    (term-add-mid t)
+    (term-term-requires t)
+    (term-enum-known-place-2 t)
+    (term-enum-known-rest t)
+    (term-join-requires t)
+    (term-beside-requires t)
     (term-same-length-3 t)
     (term-same-length-4 t)
     (term-returns-2 t)

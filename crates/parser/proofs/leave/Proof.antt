@@ -31,7 +31,7 @@ same-length-2 : tie.Need-same-length-2
 same-length-2 c = search needs
 
 returns-2 : tie.Need-returns-2
-returns-2 c = record { group = λ e. absurd (c .before .before .before .before .before .before .before .before .before .before .before .before .before .before .before .if1 .left e); variable = λ h. shut-as (c .before .before .before .before .before .before .before .before .before .before .before .before .step .ensures) (c .before .before .before .before .before .before .join .ensures) (c .before .before .join2 .ensures) }
+returns-2 c = record { group = λ e. absurd (c .before .before .before .before .before .before .before .before .before .before .before .before .before .before .before .before .if1 .left e); variable = λ h. shut-as (c .before .before .before .before .before .before .before .before .before .before .before .before .step .ensures) (c .before .before .before .before .before .before .join .ensures) (c .before .before .join2 .ensures) }
 
 pub leave-spec : {M : Type 1} → statement M
 leave-spec =

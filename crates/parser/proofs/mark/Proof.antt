@@ -77,11 +77,14 @@ cast-weight-3 c = search needs
 add-weight-2 : tie.Need-add-weight-2
 add-weight-2 c = search needs
 
-add-t21 : tie.Need-add-t21
-add-t21 c = search needs
+add-leaf : tie.Need-add-leaf
+add-leaf c = search needs
+
+leaf-requires : tie.Need-leaf-requires
+leaf-requires c κs = search needs
 
 returns-4 : tie.Need-returns-4
-returns-4 c = charged (c .before .before .before .before .before .before .before .before .byte-at .ensures) (c .before .before .before .before .before .byte-at2 .ensures) (c .before .before .byte-at3 .ensures) (mark-4 (c .before .before .before .before .before .before .before .before .before .before .args .text .now) (c .before .before .before .before .before .before .before .before .before .before .args .at) (c .before .before .before .before .before .before .before .before .before .before .pre .2) (seen digit (c .before .before .before .before .before .before .before .before .byte-at .ensures) (c .before .before .before .before .before .before .before .decimal .ensures) (not-false (c .before .before .before .before .before .before .before .decimal .result) (c .before .before .before .before .before .before .if1 .left))) (seen digit (c .before .before .before .before .before .byte-at2 .ensures) (c .before .before .before .before .decimal2 .ensures) (not-false (c .before .before .before .before .decimal2 .result) (c .before .before .before .if2 .left))) (seen digit (c .before .before .byte-at3 .ensures) (c .before .decimal3 .ensures) (not-false (c .before .decimal3 .result) (c .if3 .left))))
+returns-4 c = charged (c .before .before .before .before .before .before .before .before .before .byte-at .ensures) (c .before .before .before .before .before .before .byte-at2 .ensures) (c .before .before .before .byte-at3 .ensures) (c .leaf .ensures) (mark-4 (c .before .before .before .before .before .before .before .before .before .before .before .args .text .now) (c .before .before .before .before .before .before .before .before .before .before .before .args .at) (c .before .before .before .before .before .before .before .before .before .before .before .pre .2) (seen digit (c .before .before .before .before .before .before .before .before .before .byte-at .ensures) (c .before .before .before .before .before .before .before .before .decimal .ensures) (not-false (c .before .before .before .before .before .before .before .before .decimal .result) (c .before .before .before .before .before .before .before .if1 .left))) (seen digit (c .before .before .before .before .before .before .byte-at2 .ensures) (c .before .before .before .before .before .decimal2 .ensures) (not-false (c .before .before .before .before .before .decimal2 .result) (c .before .before .before .before .if2 .left))) (seen digit (c .before .before .before .byte-at3 .ensures) (c .before .before .decimal3 .ensures) (not-false (c .before .before .decimal3 .result) (c .before .if3 .left))))
 
 pub mark-spec : {M : Type 1} → statement M
 mark-spec =
@@ -109,5 +112,6 @@ mark-spec =
     sub-weight-3
     cast-weight-3
     add-weight-2
-    add-t21
+    add-leaf
+    leaf-requires
     returns-4)
