@@ -126,6 +126,13 @@ fn lines_of_80(log: &str) -> Vec<Vec<u8>> {
     log.lines().map(|line| format!("{line}{fill}").into_bytes()[..80].to_vec()).collect()
 }
 
+/// A log's first line behind as much of other text as makes n bytes.
+fn stretched(log: &str, n: usize) -> Vec<u8> {
+    let line = log.lines().next().expect("a line");
+    let text = "GW 12 SEQ 000417 BATT 3.6 V ".repeat(n / 28 + 1) + line;
+    text.into_bytes().split_off(n / 28 * 28 + 28 + line.len() - n)
+}
+
 fn main() {
     let samples = std::env::args().nth(1).expect("the folder of samples");
     let read = |name: &str| std::fs::read_to_string(format!("{samples}/{name}")).expect("a sample");
@@ -137,7 +144,7 @@ fn main() {
     let title = format!("ec card: K={} S={} R={}, lines of 80", ec[1], ec[0], ec[2]);
     measure(&title, &ec, &lines_of_80(&read("ec.log")));
     for n in [64, 128, 256, 512, 1024] {
-        measure(&format!("by length: ec card, line of {n}"), &ec, &[bytes(n)]);
+        measure(&format!("by length: ec card, line of {n}"), &ec, &[stretched(&read("ec.log"), n)]);
     }
     for rows in [31, 62, 124, 248, 496, 992] {
         measure(&format!("by rows: K=1 S=32 R={rows}, line of 256"), &full_table(32, 1, rows), &[bytes(256)]);

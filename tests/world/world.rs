@@ -1,11 +1,10 @@
 // The exhaustive small world: every short card, times every short line, a reader compared
 // with the oracle's enumeration. world.sh builds and runs it.
-//   world READER BYTES PIECES
+//   world READER BYTES PIECES PARTS
 // READER is a program that takes a card and lines on standard input, or --fast for the
-// oracle's other way. Cards are all texts of up to BYTES bytes, and of up to PIECES pieces
-// (whole captures, ranges and charges count as few), for K from 0 to 2. A text that no
-// longer begins a text of the grammar is tried and not gone on from: all that begin with
-// it have the same answer by definition.
+// oracle's other way. Cards are all texts of up to BYTES bytes, of up to PIECES pieces and
+// of up to PARTS larger parts. A text that no longer begins a text of the grammar is tried
+// and not gone on from: all that begin with it have the same answer by definition.
 #[path = "../oracle/lib.rs"]
 #[allow(dead_code)]
 mod oracle;
@@ -20,6 +19,10 @@ const BYTES: &[&str] =
     &["|", "*", "#", "(", ")", "[", "]", "{", "}", "\\", ".", "~", "a", "0", "1", "-", ":"];
 const PIECES: &[&str] =
     &["|", "*", "#001", "#002", "(", ")", "[0-9]", "{1:", "{2:", "}", "\\*", ".", "~", "a", "1"];
+/// Where several readings of one weight or several orders of markers are likely.
+const PARTS: &[&str] = &[
+    ".*", "a#001", "~#002", "(", ")", ")*", "|", "{1:", "{2:", "}", "{1:.*}", "{2:.*}", "{3:.*}", "{1:~}", "{3:a#001*}",
+];
 const LINES: &[u8] = b"a1*";
 const LONGEST: usize = 3;
 const MOST_SHOWN: u64 = 10;
@@ -46,6 +49,17 @@ fn every_line() -> (Vec<u8>, u64) {
     }
     let count = all.len() as u64;
     (all.iter().flat_map(|line| [&line[..], b"\n"].concat()).collect(), count)
+}
+
+fn first_difference(got: &[u8], expected: &[u8]) -> String {
+    let answers = |out: &[u8]| -> Vec<String> {
+        let text = String::from_utf8_lossy(out).replace('\n', " ");
+        text.split("line=").map(str::to_string).collect()
+    };
+    let (got, expected) = (answers(got), answers(expected));
+    let same = got.iter().zip(&expected).take_while(|(g, e)| g == e).count();
+    let at = |all: &[String]| all.get(same).map_or("nothing".to_string(), |answer| format!("line={answer}"));
+    format!("got {}, expected {}", at(&got), at(&expected))
 }
 
 impl World {
@@ -76,8 +90,7 @@ impl World {
         if got != expected {
             self.differences += 1;
             if self.differences <= MOST_SHOWN {
-                let shown = |out: &[u8]| String::from_utf8_lossy(out).replace('\n', " ");
-                println!("K={k} pattern {text}\n  got      {}\n  expected {}", shown(&got), shown(&expected));
+                println!("K={k} pattern {text}: {}", first_difference(&got, &expected));
             }
         }
     }
@@ -103,7 +116,9 @@ fn main() {
     let args: Vec<String> = std::env::args().collect();
     let depth = |i: usize| args[i].parse().expect("a number");
     let (lines, count) = every_line();
-    for (title, pieces, more) in [("bytes", BYTES, depth(2)), ("pieces", PIECES, depth(3))] {
+    let worlds = [("bytes", BYTES, 2, depth(2)), ("pieces", PIECES, 2, depth(3)), ("parts", PARTS, 3, depth(4))];
+    let mut differences = 0;
+    for (title, pieces, most_k, more) in worlds {
         let mut world = World {
             reader: args[1].clone(),
             lines: lines.clone(),
@@ -113,13 +128,12 @@ fn main() {
             cases: 0,
             differences: 0,
         };
-        (0..=2).for_each(|k| world.grow(k, pieces, &mut String::new(), more));
+        (0..=most_k).for_each(|k| world.grow(k, pieces, &mut String::new(), more));
         println!(
-            "{title} up to {more}: {} cards, {} of them refused, {} cases, {} differences",
+            "{title} up to {more}, K up to {most_k}: {} cards, {} of them refused, {} cases, {} differences",
             world.cards, world.refused, world.cases, world.differences
         );
-        if world.differences > 0 {
-            std::process::exit(1);
-        }
+        differences += world.differences;
     }
+    std::process::exit((differences > 0) as i32);
 }
