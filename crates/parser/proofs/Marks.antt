@@ -13,7 +13,7 @@ use Rattle.pattern.specs.Machine.{Todo, St, after, ch1, ch2, ch3, dead, digit, 
 use Rattle.pattern.specs.Found.{PostsDone, PostsStuck, Marked}
 use Rattle.pattern.specs.Laws.{run-append}
 use Rattle.pattern.specs.Joins.{slice-join, slice-one, run-join, join-rest}
-use Rattle.parser.specs.declared.Parsed.the-variants.{Good}
+use Rattle.parser.specs.declared.Piece.the-variants.{Here}
 use Rattle.parser.specs.declared.Part.{Part}
 use Rattle.parser.specs.Parts.{level}
 use Rattle.parser.specs.Result.{Marks, good}
@@ -86,7 +86,7 @@ module _ (s : List ℕ) (at : ℕ) (e : getD s at 0 ≡ 35) where
             runs = λ k d a. ap (run k (after d a)) f ∙ rw (h1, h2, h);
           }
 
-pub charged : {s : List ℕ} {at n x y z a b c : ℕ} {p : Part} → a ≡ x → b ≡ y → c ≡ z → p ≡ level n 0 (three a b c) → Marked s at n (three x y z) → Marks s at (Good p)
+pub charged : {s : List ℕ} {at n x y z a b c : ℕ} {p : Part} → a ≡ x → b ≡ y → c ≡ z → p ≡ level n 0 (three a b c) → Marked s at n (three x y z) → Marks s at (Here p)
 charged {n = n} {x = x} {y = y} {z = z} e f g h m = rw (h, e, f, g) (good {p = level n 0 (three x y z)} m)
 
 -- none

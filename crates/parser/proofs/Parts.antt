@@ -18,8 +18,8 @@ use Rattle.grid.specs.Cells.{Cleared, Linked, Joined}
 use Rattle.grid.specs.Grow.{fresh-cleared}
 use Rattle.grid.specs.Patterns.{grown-whole}
 use Rattle.parser.specs.declared.Part.{Part}
-use Rattle.parser.specs.declared.Parsed.{Parsed}
-use Rattle.parser.specs.declared.Parsed.the-variants.{Good, Bad}
+use Rattle.parser.specs.declared.Piece.{Piece}
+use Rattle.parser.specs.declared.Piece.the-variants.{Here, Fails}
 use Rattle.parser.specs.declared.Head.{Head}
 use Rattle.parser.specs.declared.Head.the-variants.{Byte, Empty, Open, Wrong}
 use Rattle.parser.specs.Grown.{Labelled, Grown, Turned, Stepped, Entered, Left}
@@ -31,32 +31,32 @@ use Rattle.parser.proofs.Growth.{labels-count, grow-reads, grow-nothing
 
 -- what a match tells of an answer
 module _ {G : ℕ → List ℕ → Pat → Type 0} {S : ℕ → ℕ → Type 0} {k : ℕ} {s : List ℕ} {at o : ℕ} {c₀ c₁ l₀ l₁ : List ℕ} where
-  is-part : {p : Part} → Parses G S k s at o c₀ c₁ l₀ l₁ (Good p) → Stands G S k s at o c₀ c₁ l₀ l₁ p
+  is-part : {p : Part} → Parses G S k s at o c₀ c₁ l₀ l₁ (Here p) → Stands G S k s at o c₀ c₁ l₀ l₁ p
   is-part (found x) = x
 
-  is-stuck : {place : ℕ} → Parses G S k s at o c₀ c₁ l₀ l₁ (Bad place) → Stuck G k s at place
+  is-stuck : {place : ℕ} → Parses G S k s at o c₀ c₁ l₀ l₁ (Fails place) → Stuck G k s at place
   is-stuck (stuck d) = d
 
-  pub stands-part : {r : Parsed} {p : Part} → r ≡ Good p → Parses G S k s at o c₀ c₁ l₀ l₁ r → Stands G S k s at o c₀ c₁ l₀ l₁ p
+  pub stands-part : {r : Piece} {p : Part} → r ≡ Here p → Parses G S k s at o c₀ c₁ l₀ l₁ r → Stands G S k s at o c₀ c₁ l₀ l₁ p
   stands-part e h = is-part (subst (Parses G S k s at o c₀ c₁ l₀ l₁) e h)
 
-  pub failed : {r : Parsed} {place : ℕ} → r ≡ Bad place → Parses G S k s at o c₀ c₁ l₀ l₁ r → Stuck G k s at place
+  pub failed : {r : Piece} {place : ℕ} → r ≡ Fails place → Parses G S k s at o c₀ c₁ l₀ l₁ r → Stuck G k s at place
   failed e h = is-stuck (subst (Parses G S k s at o c₀ c₁ l₀ l₁) e h)
 
-  pub found-as : {p q : Part} → q ≡ p → Stands G S k s at o c₀ c₁ l₀ l₁ p → Parses G S k s at o c₀ c₁ l₀ l₁ (Good q)
+  pub found-as : {p q : Part} → q ≡ p → Stands G S k s at o c₀ c₁ l₀ l₁ p → Parses G S k s at o c₀ c₁ l₀ l₁ (Here q)
   found-as e x = rw e (found x)
 
 module _ {s : List ℕ} {at : ℕ} where
-  is-mark : {p : Part} → Marks s at (Good p) → Marked s at (p .next) (p .nul)
+  is-mark : {p : Part} → Marks s at (Here p) → Marked s at (p .next) (p .nul)
   is-mark (good d) = d
 
-  is-no-mark : {place : ℕ} → Marks s at (Bad place) → PostsStuck s at place
+  is-no-mark : {place : ℕ} → Marks s at (Fails place) → PostsStuck s at place
   is-no-mark (bad d) = d
 
-  pub mark-found : {r : Parsed} {p : Part} → r ≡ Good p → Marks s at r → Marked s at (p .next) (p .nul)
+  pub mark-found : {r : Piece} {p : Part} → r ≡ Here p → Marks s at r → Marked s at (p .next) (p .nul)
   mark-found e h = is-mark (subst (Marks s at) e h)
 
-  pub mark-failed : {r : Parsed} {place : ℕ} → r ≡ Bad place → Marks s at r → PostsStuck s at place
+  pub mark-failed : {r : Piece} {place : ℕ} → r ≡ Fails place → Marks s at r → PostsStuck s at place
   mark-failed e h = is-no-mark (subst (Marks s at) e h)
 
 pub record HeadByte (k : ℕ) (s : List ℕ) (at n arg : ℕ) : Type 0 where
@@ -96,21 +96,21 @@ module _ {k : ℕ} {s : List ℕ} {at : ℕ} where
   head-wrong e h = is-wrong (subst (Opens k s at) e h)
 
 -- the postfixes
-pub star-posted : {s : List ℕ} {o z : ℕ} {p q : Part} {c₀ c₁ c₂ : List ℕ} {r : Parsed} → getD s (p .next) 0 ≡ 42 → z ≡ 0 → Linked o 31 o c₀ c₁ → q ≡ putOn p (p .next + 1) z → Posted s o q c₁ c₂ r → Posted s o p c₀ c₂ r
+pub star-posted : {s : List ℕ} {o z : ℕ} {p q : Part} {c₀ c₁ c₂ : List ℕ} {r : Piece} → getD s (p .next) 0 ≡ 42 → z ≡ 0 → Linked o 31 o c₀ c₁ → q ≡ putOn p (p .next + 1) z → Posted s o q c₁ c₂ r → Posted s o p c₀ c₂ r
 star-posted {s} {o} {z} {p} {c₀ = c₀} {c₁ = c₁} {c₂ = c₂} {r = r} e g k i h = go (subst (λ (x : Part). Posted s o x c₁ c₂ r) i h)
   where
-    go : {t : Parsed} → Posted s o (putOn p (p .next + 1) z) c₁ c₂ t → Posted s o p c₀ c₂ t
+    go : {t : Piece} → Posted s o (putOn p (p .next + 1) z) c₁ c₂ t → Posted s o p c₀ c₂ t
     go (posts {q = q} d) = posts (record { turn = λ a. d .turn (star a); is = star-done s (p .next) e (q .next) (d .is); same-steps = d .same-steps; same-depth = d .same-depth; turned = turn-star g k (d .turned) })
     go (halts {place = n} d) = halts (star-stuck s (p .next) e n d)
 
-pub mark-posted : {s : List ℕ} {o n w z : ℕ} {p q : Part} {c₀ c₁ c₂ : List ℕ} {r : Parsed} → Marked s (p .next) n w → z ≡ joint (p .nul) w → Joined o (o + p .steps) (p .nul) w c₀ c₁ → q ≡ putOn p n z → Posted s o q c₁ c₂ r → Posted s o p c₀ c₂ r
+pub mark-posted : {s : List ℕ} {o n w z : ℕ} {p q : Part} {c₀ c₁ c₂ : List ℕ} {r : Piece} → Marked s (p .next) n w → z ≡ joint (p .nul) w → Joined o (o + p .steps) (p .nul) w c₀ c₁ → q ≡ putOn p n z → Posted s o q c₁ c₂ r → Posted s o p c₀ c₂ r
 mark-posted {s} {o} {n} {w} {z} {p} {c₀ = c₀} {c₁ = c₁} {c₂ = c₂} {r = r} m g k i h = go (subst (λ (x : Part). Posted s o x c₁ c₂ r) i h)
   where
-    go : {t : Parsed} → Posted s o (putOn p n z) c₁ c₂ t → Posted s o p c₀ c₂ t
+    go : {t : Piece} → Posted s o (putOn p n z) c₁ c₂ t → Posted s o p c₀ c₂ t
     go (posts {q = q} d) = posts (record { turn = λ a. d .turn (charge w a); is = mark-done s (p .next) n w m (q .next) (d .is); same-steps = d .same-steps; same-depth = d .same-depth; turned = turn-charge g k (d .turned) })
     go (halts {place = e} d) = halts (mark-then-stuck s (p .next) n w m e d)
 
-pub none-posted : {s : List ℕ} {o : ℕ} {p : Part} {c : List ℕ} → p .next ≤ length s → (eqb (getD s (p .next) 0) 42 ≡ false) × (eqb (getD s (p .next) 0) 35 ≡ false) → Posted s o p c c (Good p)
+pub none-posted : {s : List ℕ} {o : ℕ} {p : Part} {c : List ℕ} → p .next ≤ length s → (eqb (getD s (p .next) 0) 42 ≡ false) × (eqb (getD s (p .next) 0) 35 ≡ false) → Posted s o p c c (Here p)
 none-posted {s} {p = p} l h = posts (record { turn = λ a. a; is = posts-none s (p .next) l h; same-steps = refl; same-depth = refl; turned = turn-none })
 
 closing-some : (b : Bracket) → 0 < closing b
@@ -136,7 +136,7 @@ module _ {k : ℕ} {s : List ℕ} {at o : ℕ} where
     grown = grow-turn (x .counts) (y .is .counts (x .tree)) (x .grown) (y .turned);
   }
 
-  pub factor-parses : {p : Part} {c₀ c₁ c₂ l₀ l₁ : List ℕ} {r : Parsed} → Stands Atom AtomStop k s at o c₀ c₁ l₀ l₁ p → Posted s o p c₁ c₂ r → Parses Factor FactorStop k s at o c₀ c₂ l₀ l₁ r
+  pub factor-parses : {p : Part} {c₀ c₁ c₂ l₀ l₁ : List ℕ} {r : Piece} → Stands Atom AtomStop k s at o c₀ c₁ l₀ l₁ p → Posted s o p c₁ c₂ r → Parses Factor FactorStop k s at o c₀ c₂ l₀ l₁ r
   factor-parses x (posts y) = found (factor-part x y)
   factor-parses x (halts d) = stuck (factor-bad-2 (x .is) d)
 
@@ -179,13 +179,13 @@ module _ {k : ℕ} {s : List ℕ} {at o : ℕ} where
   }
 
 -- the whole text
-pub read-whole : {k : ℕ} {p : Part} {s c₀ c₁ l₀ l₁ : List ℕ} → length s ≤ 255 → Cleared c₀ → Stands Pattern PatternStop k s 0 0 c₀ c₁ l₀ l₁ p → length s ≤ p .next → Read k s c₁ l₁ p
+pub read-whole : {k : ℕ} {p : Part} {s c₀ c₁ l₀ l₁ : List ℕ} → length s ≤ 255 → Cleared c₀ → Stands Pattern PatternStop k s 0 0 c₀ c₁ l₀ l₁ p → length s ≤ p .next → Read k s c₁ l₁ (p .next) (p .steps) (p .deep) (p .nul)
 read-whole {p = p} {s = s} {c₀ = c₀} {c₁ = c₁} {l₁ = l₁} b clear x h = record {
   tree = x .tree;
   parsed = accepted (x .is) h;
   all = omega (arith, x .is .within);
   counts = x .counts;
-  depth = x .depth;
+  deep = x .depth;
   root = x .grown .root;
   whole = whole;
 }

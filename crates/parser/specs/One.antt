@@ -8,16 +8,9 @@ use Rattle.pattern.specs.Laws.{tree-one}
 use Rattle.pattern.specs.One.{place-one}
 use Rattle.arcs.specs.Exact.{arcOf}
 use Rattle.grid.specs.Grow.{at}
-use Rattle.parser.specs.declared.Part.{Part}
 use Rattle.parser.specs.declared.Parsed.{Parsed}
 use Rattle.parser.specs.declared.Parsed.the-variants.{Good, Bad}
 use Rattle.parser.specs.Result.{Answers, is-text, no-text, Whole}
-
-fields-same : {n st dp w m su dq v : ℕ} → n ≡ m → st ≡ su → dp ≡ dq → w ≡ v → _≡_ {A = Part} (record { next = n; steps = st; deep = dp; nul = w }) (record { next = m; steps = su; deep = dq; nul = v })
-fields-same e f g h = cc
-
-same : (p q : Part) → p .next ≡ q .next → p .steps ≡ q .steps → p .deep ≡ q .deep → p .nul ≡ q .nul → p ≡ q
-same p q e f g h = fields-same e f g h
 
 pub answer-one : {k : ℕ} {s c d l m : List ℕ} {r t : Parsed} → Answers k s c l r → Answers k s d m t → r ≡ t
 answer-one (is-text x) (is-text y) =
@@ -25,7 +18,7 @@ answer-one (is-text x) (is-text y) =
     let f = ap stepsOf e in
     let g = ap nestingOf e in
     let h = ap (λ (a : Pat). arcOf a 0 0) e in
-    ap Good (same _ _ (x .all ∙ sym (y .all)) (x .counts ∙ f ∙ sym (y .counts)) (x .depth ∙ g ∙ sym (y .depth)) (x .root ∙ h ∙ sym (y .root)))
+    cc (x .all, y .all, x .counts, y .counts, x .deep, y .deep, x .root, y .root)
 answer-one (is-text x) (no-text q) = absurd (q .outside (x .tree) (x .parsed))
 answer-one (no-text q) (is-text y) = absurd (q .outside (y .tree) (y .parsed))
 answer-one (no-text p) (no-text q) = ap Bad (place-one p q)

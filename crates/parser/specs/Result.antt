@@ -13,6 +13,8 @@ use mathlib.Core.List.{List}
 use Prim.Native.Nat.{ℕ, _+_, _*_, _≤_, _<_}
 use lib.ListN.{length, getD}
 use Rattle.parser.specs.declared.Part.{Part}
+use Rattle.parser.specs.declared.Piece.{Piece}
+use Rattle.parser.specs.declared.Piece.the-variants.{Here, Fails}
 use Rattle.parser.specs.declared.Parsed.{Parsed}
 use Rattle.parser.specs.declared.Parsed.the-variants.{Good, Bad}
 use Rattle.parser.specs.declared.Head.{Head}
@@ -35,9 +37,9 @@ pub data Opens (k : ℕ) (s : List ℕ) (at : ℕ) : Head → Type 0 where
   opens : {n c v : ℕ} {wrap : Pat → Pat} → Wraps v wrap → Opened k s at n c wrap → Opens k s at (Open n c v)
   wrong : {p : ℕ} → Stuck Atom k s at p → Opens k s at (Wrong p)
 
-pub data Marks (s : List ℕ) (at : ℕ) : Parsed → Type 0 where
-  good : {p : Part} → Marked s at (p .next) (p .nul) → Marks s at (Good p)
-  bad : {place : ℕ} → PostsStuck s at place → Marks s at (Bad place)
+pub data Marks (s : List ℕ) (at : ℕ) : Piece → Type 0 where
+  good : {p : Part} → Marked s at (p .next) (p .nul) → Marks s at (Here p)
+  bad : {place : ℕ} → PostsStuck s at place → Marks s at (Fails place)
 
 pub record Stands (G : ℕ → List ℕ → Pat → Type 0) (S : ℕ → ℕ → Type 0) (k : ℕ) (s : List ℕ) (at o : ℕ) (c₀ c₁ l₀ l₁ : List ℕ) (p : Part) : Type 0 where
   pub tree : Pat
@@ -46,9 +48,9 @@ pub record Stands (G : ℕ → List ℕ → Pat → Type 0) (S : ℕ → ℕ →
   pub depth : p .deep ≡ nestingOf tree
   pub grown : Grown tree o c₀ c₁ l₀ l₁ (p .nul)
 
-pub data Parses (G : ℕ → List ℕ → Pat → Type 0) (S : ℕ → ℕ → Type 0) (k : ℕ) (s : List ℕ) (at o : ℕ) (c₀ c₁ l₀ l₁ : List ℕ) : Parsed → Type 0 where
-  found : {p : Part} → Stands G S k s at o c₀ c₁ l₀ l₁ p → Parses G S k s at o c₀ c₁ l₀ l₁ (Good p)
-  stuck : {place : ℕ} → Stuck G k s at place → Parses G S k s at o c₀ c₁ l₀ l₁ (Bad place)
+pub data Parses (G : ℕ → List ℕ → Pat → Type 0) (S : ℕ → ℕ → Type 0) (k : ℕ) (s : List ℕ) (at o : ℕ) (c₀ c₁ l₀ l₁ : List ℕ) : Piece → Type 0 where
+  found : {p : Part} → Stands G S k s at o c₀ c₁ l₀ l₁ p → Parses G S k s at o c₀ c₁ l₀ l₁ (Here p)
+  stuck : {place : ℕ} → Stuck G k s at place → Parses G S k s at o c₀ c₁ l₀ l₁ (Fails place)
 
 pub record Posts (s : List ℕ) (o : ℕ) (p : Part) (c₀ c₁ : List ℕ) (q : Part) : Type 0 where
   pub turn : Pat → Pat
@@ -57,24 +59,24 @@ pub record Posts (s : List ℕ) (o : ℕ) (p : Part) (c₀ c₁ : List ℕ) (q :
   pub same-depth : q .deep ≡ p .deep
   pub turned : Turned turn o (o + p .steps) (p .nul) c₀ c₁ (q .nul)
 
-pub data Posted (s : List ℕ) (o : ℕ) (p : Part) (c₀ c₁ : List ℕ) : Parsed → Type 0 where
-  posts : {q : Part} → Posts s o p c₀ c₁ q → Posted s o p c₀ c₁ (Good q)
-  halts : {place : ℕ} → PostsStuck s (p .next) place → Posted s o p c₀ c₁ (Bad place)
+pub data Posted (s : List ℕ) (o : ℕ) (p : Part) (c₀ c₁ : List ℕ) : Piece → Type 0 where
+  posts : {q : Part} → Posts s o p c₀ c₁ q → Posted s o p c₀ c₁ (Here q)
+  halts : {place : ℕ} → PostsStuck s (p .next) place → Posted s o p c₀ c₁ (Fails place)
 
 pub record Whole (a : Pat) (cells labels : List ℕ) : Type 0 where
   pub arcs : (x y : ℕ) → 0 < x + y → x < 32 → y < 32 → at cells x y ≡ arcOf a x y
   pub kinds : (i : ℕ) → i < stepsOf a → getD labels (2 * i) 0 ≡ nthLabel (labelsOf a) i .kind
   pub arguments : (i : ℕ) → i < stepsOf a → getD labels (2 * i + 1) 0 ≡ nthLabel (labelsOf a) i .argument
 
-pub record Read (k : ℕ) (s cells labels : List ℕ) (p : Part) : Type 0 where
+pub record Read (k : ℕ) (s cells labels : List ℕ) (n st dp nul : ℕ) : Type 0 where
   pub tree : Pat
   pub parsed : Pattern k s tree
-  pub all : p .next ≡ length s
-  pub counts : p .steps ≡ stepsOf tree
-  pub depth : p .deep ≡ nestingOf tree
-  pub root : p .nul ≡ arcOf tree 0 0
+  pub all : n ≡ length s
+  pub counts : st ≡ stepsOf tree
+  pub deep : dp ≡ nestingOf tree
+  pub root : nul ≡ arcOf tree 0 0
   pub whole : stepsOf tree ≤ 31 → Whole tree cells labels
 
 pub data Answers (k : ℕ) (s cells labels : List ℕ) : Parsed → Type 0 where
-  is-text : {p : Part} → Read k s cells labels p → Answers k s cells labels (Good p)
-  no-text : {place : ℕ} → Refused k s place → Answers k s cells labels (Bad place)
+  is-text : {n st dp nul : ℕ} → Read k s cells labels n st dp nul → Answers k s cells labels (Good n st dp nul)
+  no-text : {p : ℕ} → Refused k s p → Answers k s cells labels (Bad p)

@@ -21,9 +21,23 @@ pub struct Part {
     pub nul: u32,
 }
 
+// A part of the text, or the place at which there is none.
+pub enum Piece {
+    Here { part: Part },
+    Fails { place: usize },
+}
+
+// The numbers of the whole text's part, or the place of number 3.
 pub enum Parsed {
-    Good { part: Part },
-    Bad { place: usize },
+    Good {
+        next: usize,
+        steps: usize,
+        deep: usize,
+        nul: u32,
+    },
+    Bad {
+        place: usize,
+    },
 }
 
 // What the first bytes of an atom are. A group opens variable 0.
@@ -252,27 +266,27 @@ fn between(part: Part, own: usize, nul: u32) -> Part
 }
 
 // At a `#`: the weight mark as a part with no step.
-fn mark(text: &[u8], at: usize) -> Parsed
+fn mark(text: &[u8], at: usize) -> Piece
     requires { ⌜ (length (now text) ≤ 255) × (at ≤ length (now text)) × (getD (now text) at 0 ≡ 35) ⌝ }
     ensures { λ r. ⌜ Marks (now (text .entry)) at r ⌝ }
 {
     let one = at + 1;
     let x = byte_at(text, one);
     if !decimal(x) {
-        return Parsed::Bad { place: one };
+        return Piece::Fails { place: one };
     }
     let two = one + 1;
     let y = byte_at(text, two);
     if !decimal(y) {
-        return Parsed::Bad { place: two };
+        return Piece::Fails { place: two };
     }
     let three = two + 1;
     let z = byte_at(text, three);
     if !decimal(z) {
-        return Parsed::Bad { place: three };
+        return Piece::Fails { place: three };
     }
     let weight = (x - b'0') as u32 * 100 + (y - b'0') as u32 * 10 + (z - b'0') as u32;
-    Parsed::Good {
+    Piece::Here {
         part: leaf(three + 1, 0, weight),
     }
 }
@@ -318,7 +332,7 @@ fn leave(cells: &mut [u32], labels: &mut [u32], o: usize, variable: u32, part: P
 }
 
 // The postfixes after a part whose steps are numbered from o on.
-fn postfixes(text: &[u8], cells: &mut [u32], o: usize, part: Part) -> Parsed
+fn postfixes(text: &[u8], cells: &mut [u32], o: usize, part: Part) -> Piece
     requires { ⌜ (length (now text) ≤ 255) × (part .next ≤ length (now text)) × (o + part .steps ≤ 255) × (1024 ≤ length (now cells)) ⌝ }
     ensures { λ r. ⌜ Posted (now (text .entry)) o part (now (cells .entry)) (now (cells .exit)) r ⌝ }
 {
@@ -329,28 +343,28 @@ fn postfixes(text: &[u8], cells: &mut [u32], o: usize, part: Part) -> Parsed
     }
     if b == b'#' {
         return match mark(text, part.next) {
-            Parsed::Bad { place } => Parsed::Bad { place },
-            Parsed::Good { part: weight } => {
+            Piece::Fails { place } => Piece::Fails { place },
+            Piece::Here { part: weight } => {
                 let charged = grid::join(cells, o, o + part.steps, part.nul, weight.nul);
                 postfixes(text, cells, o, put_on(part, weight.next, charged))
             }
         };
     }
-    Parsed::Good { part }
+    Piece::Here { part }
 }
 
-fn atom(text: &[u8], at: usize, k: u32, cells: &mut [u32], labels: &mut [u32], o: usize) -> Parsed
+fn atom(text: &[u8], at: usize, k: u32, cells: &mut [u32], labels: &mut [u32], o: usize) -> Piece
     requires { ⌜ (length (now text) ≤ 255) × (at ≤ length (now text)) × (o ≤ at) × (1024 ≤ length (now cells)) × (64 ≤ length (now labels)) ⌝ }
     ensures { λ r. ⌜ Parses Atom AtomStop k (now (text .entry)) at o (now (cells .entry)) (now (cells .exit)) (now (labels .entry)) (now (labels .exit)) r ⌝ }
 {
     match opening(text, at, k) {
-        Head::Wrong { place } => Parsed::Bad { place },
-        Head::Empty { next } => Parsed::Good {
+        Head::Wrong { place } => Piece::Fails { place },
+        Head::Empty { next } => Piece::Here {
             part: leaf(next, 0, 0),
         },
         Head::Byte { next, argument } => {
             let nul = step(cells, labels, o, 0, argument);
-            Parsed::Good {
+            Piece::Here {
                 part: leaf(next, 1, nul),
             }
         }
@@ -361,13 +375,13 @@ fn atom(text: &[u8], at: usize, k: u32, cells: &mut [u32], labels: &mut [u32], o
         } => {
             let own = enter(cells, labels, o, variable);
             match pattern(text, inside, k, cells, labels, o + own) {
-                Parsed::Bad { place } => Parsed::Bad { place },
-                Parsed::Good { part } => {
+                Piece::Fails { place } => Piece::Fails { place },
+                Piece::Here { part } => {
                     if byte_at(text, part.next) != close {
-                        return Parsed::Bad { place: part.next };
+                        return Piece::Fails { place: part.next };
                     }
                     let nul = leave(cells, labels, o, variable, part);
-                    Parsed::Good {
+                    Piece::Here {
                         part: between(part, own, nul),
                     }
                 }
@@ -376,32 +390,32 @@ fn atom(text: &[u8], at: usize, k: u32, cells: &mut [u32], labels: &mut [u32], o
     }
 }
 
-fn factor(text: &[u8], at: usize, k: u32, cells: &mut [u32], labels: &mut [u32], o: usize) -> Parsed
+fn factor(text: &[u8], at: usize, k: u32, cells: &mut [u32], labels: &mut [u32], o: usize) -> Piece
     requires { ⌜ (length (now text) ≤ 255) × (at ≤ length (now text)) × (o ≤ at) × (1024 ≤ length (now cells)) × (64 ≤ length (now labels)) ⌝ }
     ensures { λ r. ⌜ Parses Factor FactorStop k (now (text .entry)) at o (now (cells .entry)) (now (cells .exit)) (now (labels .entry)) (now (labels .exit)) r ⌝ }
 {
     match atom(text, at, k, cells, labels, o) {
-        Parsed::Bad { place } => Parsed::Bad { place },
-        Parsed::Good { part } => postfixes(text, cells, o, part),
+        Piece::Fails { place } => Piece::Fails { place },
+        Piece::Here { part } => postfixes(text, cells, o, part),
     }
 }
 
-fn term(text: &[u8], at: usize, k: u32, cells: &mut [u32], labels: &mut [u32], o: usize) -> Parsed
+fn term(text: &[u8], at: usize, k: u32, cells: &mut [u32], labels: &mut [u32], o: usize) -> Piece
     requires { ⌜ (length (now text) ≤ 255) × (at ≤ length (now text)) × (o ≤ at) × (1024 ≤ length (now cells)) × (64 ≤ length (now labels)) ⌝ }
     ensures { λ r. ⌜ Parses Term TermStop k (now (text .entry)) at o (now (cells .entry)) (now (cells .exit)) (now (labels .entry)) (now (labels .exit)) r ⌝ }
 {
     match factor(text, at, k, cells, labels, o) {
-        Parsed::Bad { place } => Parsed::Bad { place },
-        Parsed::Good { part } => {
+        Piece::Fails { place } => Piece::Fails { place },
+        Piece::Here { part } => {
             if !begins(byte_at(text, part.next), k) {
-                return Parsed::Good { part };
+                return Piece::Here { part };
             }
             let mid = o + part.steps;
             match term(text, part.next, k, cells, labels, mid) {
-                Parsed::Bad { place } => Parsed::Bad { place },
-                Parsed::Good { part: rest } => {
+                Piece::Fails { place } => Piece::Fails { place },
+                Piece::Here { part: rest } => {
                     let both = grid::join(cells, o, mid, part.nul, rest.nul);
-                    Parsed::Good {
+                    Piece::Here {
                         part: beside(part, rest, both),
                     }
                 }
@@ -410,28 +424,21 @@ fn term(text: &[u8], at: usize, k: u32, cells: &mut [u32], labels: &mut [u32], o
     }
 }
 
-fn pattern(
-    text: &[u8],
-    at: usize,
-    k: u32,
-    cells: &mut [u32],
-    labels: &mut [u32],
-    o: usize,
-) -> Parsed
+fn pattern(text: &[u8], at: usize, k: u32, cells: &mut [u32], labels: &mut [u32], o: usize) -> Piece
     requires { ⌜ (length (now text) ≤ 255) × (at ≤ length (now text)) × (o ≤ at) × (1024 ≤ length (now cells)) × (64 ≤ length (now labels)) ⌝ }
     ensures { λ r. ⌜ Parses Pattern PatternStop k (now (text .entry)) at o (now (cells .entry)) (now (cells .exit)) (now (labels .entry)) (now (labels .exit)) r ⌝ }
 {
     match term(text, at, k, cells, labels, o) {
-        Parsed::Bad { place } => Parsed::Bad { place },
-        Parsed::Good { part } => {
+        Piece::Fails { place } => Piece::Fails { place },
+        Piece::Here { part } => {
             if byte_at(text, part.next) != b'|' {
-                return Parsed::Good { part };
+                return Piece::Here { part };
             }
             match pattern(text, part.next + 1, k, cells, labels, o + part.steps) {
-                Parsed::Bad { place } => Parsed::Bad { place },
-                Parsed::Good { part: rest } => {
+                Piece::Fails { place } => Piece::Fails { place },
+                Piece::Here { part: rest } => {
                     let either = grid::lighter(part.nul, rest.nul);
-                    Parsed::Good {
+                    Piece::Here {
                         part: beside(part, rest, either),
                     }
                 }
@@ -447,12 +454,16 @@ pub fn parse(text: &[u8], k: u32, cells: &mut [u32], labels: &mut [u32]) -> Pars
 {
     grid::clear(cells);
     match pattern(text, 0, k, cells, labels, 0) {
-        Parsed::Bad { place } => Parsed::Bad { place },
-        Parsed::Good { part } => {
+        Piece::Fails { place } => Parsed::Bad { place },
+        Piece::Here { part } => {
             if part.next < text.len() {
-                Parsed::Bad { place: part.next }
-            } else {
-                Parsed::Good { part }
+                return Parsed::Bad { place: part.next };
+            }
+            Parsed::Good {
+                next: part.next,
+                steps: part.steps,
+                deep: part.deep,
+                nul: part.nul,
             }
         }
     }

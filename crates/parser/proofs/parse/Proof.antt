@@ -26,7 +26,7 @@ same-length-2 : tie.Need-same-length-2
 same-length-2 c = search needs
 
 returns : tie.Need-returns
-returns c = no-text (refused (failed (c .before .place .given .1) (c .before .before .before .before .before .before .before .pattern .ensures)))
+returns c = no-text (refused-after (stands-part (c .before .before .before .part .given .1) (c .before .before .before .before .before .before .before .before .before .pattern .ensures) .is) (c .if1 .taken))
 
 same-length-3 : tie.Need-same-length-3
 same-length-3 c = search needs
@@ -35,7 +35,7 @@ same-length-4 : tie.Need-same-length-4
 same-length-4 c = search needs
 
 returns-2 : tie.Need-returns-2
-returns-2 c = no-text (refused-after (stands-part (c .before .before .before .part .given .1) (c .before .before .before .before .before .before .before .before .before .pattern .ensures) .is) (c .if1 .taken))
+returns-2 c = no-text (refused (failed (c .before .place .given .1) (c .before .before .before .before .before .before .before .pattern .ensures)))
 
 same-length-5 : tie.Need-same-length-5
 same-length-5 c = search needs
