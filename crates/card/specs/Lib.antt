@@ -1,3 +1,4 @@
 pub mod Form
 pub mod Bytes
 pub mod One
+pub mod Part
