@@ -1,0 +1,4 @@
+pub mod Reading
+pub mod Compose
+pub mod One
+pub mod Demands
