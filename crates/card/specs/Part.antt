@@ -36,7 +36,7 @@ placed text K from to p l c e f =
       card = c;
       ordered = omega arith;
       within = omega (arith, long text K p l c);
-      part = rw e (let g : to - 15 ≡ length p = omega arith in rw g (ap (take (length p)) (after text K p l c) ∙ take-append-seam p (lf ∷ l)))
+      part = rw e (let g : to - 15 ≡ length p = omega arith in rw g (ap (take (length p)) (after text K p l c) ∙ take-append-seam p (lf ∷ l)));
     }
 
 pub stands : {text : List ℕ} {f : Form} {K from to : ℕ} → f ≡ Right K from to → FormOf text f → Stands text K from to

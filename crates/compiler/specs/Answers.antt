@@ -57,7 +57,7 @@ pub data Fails (K : ℕ) (text room : List ℕ) : ℕ → ℕ → Type 0 where
 pub data Compiles (K : ℕ) (text room exit : List ℕ) : Printed → Type 0 where
   refused : {n p : ℕ} → Fails K text room n p → ((m q : ℕ) → m < n → Fails K text room m q → ⊥) → exit ≡ room → Compiles K text room exit (refusal n p)
   table : {a : Pat} {ws : List ℕ} → ((n p : ℕ) → Fails K text room n p → ⊥) → Pattern K text a → TableOf K a ws → exit ≡ ws ++ drop (length ws) room
-    → Compiles K text room exit (written (length ws))
+      → Compiles K text room exit (written (length ws))
 
 -- the same for a card: number 10 first
 pub data CompilesCard (text room exit : List ℕ) : Printed → Type 0 where

@@ -16,8 +16,8 @@ use Rattle.compiler.specs.Answers.{mostText, mostNesting, mostSteps, wri
 module _ {K : ℕ} {text room : List ℕ} where
   -- no number below i, where each that could be given is i at least
   below : (i : ℕ) → (mostVars < K → i ≤ 1) → (mostText < length text → i ≤ 2) → ((p : ℕ) → NotInGrammar K text p → i ≤ 3) → ((a : Pat) → Pattern K text a → mostNesting < nestingOf a → i ≤ 4)
-    → ((a : Pat) → Pattern K text a → mostSteps < stepsOf a → i ≤ 5) → ((a : Pat) (ws : List ℕ) → Pattern K text a → TableOf K a ws → length room < length ws → i ≤ 6)
-    → (m q : ℕ) → m < i → Fails K text room m q → ⊥
+      → ((a : Pat) → Pattern K text a → mostSteps < stepsOf a → i ≤ 5) → ((a : Pat) (ws : List ℕ) → Pattern K text a → TableOf K a ws → length room < length ws → i ≤ 6)
+      → (m q : ℕ) → m < i → Fails K text room m q → ⊥
   below i a b c d e f m q h (vars g) = omega (arith, a g)
   below i a b c d e f m q h (long g) = omega (arith, b g)
   below i a b c d e f m q h (grammar g) = omega (arith, c _ g)
@@ -55,11 +55,11 @@ module _ {K : ℕ} {text room : List ℕ} where
           kept
 
   pub made : {exit : List ℕ} {a : Pat} → K ≤ mostVars → length text ≤ mostText → Pattern K text a → nestingOf a ≤ mostNesting → stepsOf a ≤ mostSteps → length (tableWords K a) ≤ length room
-    → exit ≡ tableWords K a ++ drop (length (tableWords K a)) room → Compiles K text room exit (written (length (tableWords K a)))
+      → exit ≡ tableWords K a ++ drop (length (tableWords K a)) room → Compiles K text room exit (written (length (tableWords K a)))
   made {exit} {a} k l p n s h e =
       table
       (λ m q f. below (m + 1) (λ g. absurd (omega arith)) (λ g. absurd (omega arith)) (λ q g. absurd (g .outside a p)) (λ b q g. absurd (omega (arith, ap nestingOf (tree-one p q)))) (λ b q g. absurd (omega (arith, ap stepsOf (tree-one p q))))
-        (λ b ws q t g. absurd (omega (arith, ap length (table-one (subst (λ (x : Pat). TableOf K x (tableWords K a)) (tree-one p q) (exact p l)) t)))) m q (omega arith) f)
+      (λ b ws q t g. absurd (omega (arith, ap length (table-one (subst (λ (x : Pat). TableOf K x (tableWords K a)) (tree-one p q) (exact p l)) t)))) m q (omega arith) f)
       p
       (exact p l)
       e

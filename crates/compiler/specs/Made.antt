@@ -64,7 +64,7 @@ no-text-of {k} {s} {cells} {labels} e a = is (subst (Answers k s cells labels) e
 
 -- what was emitted is the exact table, or its length
 pub emitted : {K : ℕ} {text room exit ws : List ℕ} {a : Pat} {e : Emitted} → K ≤ mostVars → length text ≤ mostText → Pattern K text a → nestingOf a ≤ mostNesting → stepsOf a ≤ mostSteps
-  → ws ≡ tableWords K a → Emits ws room e exit → Compiles K text room exit (compiled (compiledFrom e))
+    → ws ≡ tableWords K a → Emits ws room e exit → Compiles K text room exit (compiled (compiledFrom e))
 emitted {K} {text} {room} {exit} {ws} {a} k l p n s e (written i h f) =
     rw (i ∙ ap length e) (made k l p n s (rw e at h) (f ∙ ap (λ (x : List ℕ). x ++ drop (length x) room) e))
 emitted {K} {text} {room} {exit} {ws} {a} k l p n s e (short i h f) = rw (i ∙ ap length e) (small-room f k l p n s (rw e at h))

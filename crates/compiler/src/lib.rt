@@ -11,8 +11,11 @@ use parser::Parsed;
 
 // 01's limits.
 pub const MOST_VARS: u32 = 3;
+
 pub const MOST_TEXT: usize = 255;
+
 pub const MOST_NESTING: usize = 16;
+
 pub const MOST_STEPS: usize = 31;
 
 pub enum Compiled {
@@ -34,7 +37,10 @@ fn written(e: Emitted) -> Compiled
     ensures { λ r. ⌜ r ≡ compiledFrom e ⌝ }
 {
     match e {
-        Emitted::Short { needed } => Compiled::Refused { number: 6, place: narrow(needed) },
+        Emitted::Short { needed } => Compiled::Refused {
+            number: 6,
+            place: narrow(needed),
+        },
         Emitted::Written { words } => Compiled::Written { words },
     }
 }
@@ -44,21 +50,41 @@ pub fn compile(k: u32, pattern: &[u8], room: &mut [u32]) -> Compiled
     ensures { λ r. ⌜ Compiles k (now (pattern .entry)) (now (room .entry)) (now (room .exit)) (compiled r) ⌝ }
 {
     if MOST_VARS < k {
-        return Compiled::Refused { number: 1, place: 0 };
+        return Compiled::Refused {
+            number: 1,
+            place: 0,
+        };
     }
     if MOST_TEXT < pattern.len() {
-        return Compiled::Refused { number: 2, place: 0 };
+        return Compiled::Refused {
+            number: 2,
+            place: 0,
+        };
     }
     let mut cells = [0u32; 1024];
     let mut labels = [0u32; 64];
     match parser::parse(pattern, k, &mut cells, &mut labels) {
-        Parsed::Bad { place } => Compiled::Refused { number: 3, place: narrow(place) },
-        Parsed::Good { next: _, steps, deep, nul } => {
+        Parsed::Bad { place } => Compiled::Refused {
+            number: 3,
+            place: narrow(place),
+        },
+        Parsed::Good {
+            next: _,
+            steps,
+            deep,
+            nul,
+        } => {
             if MOST_NESTING < deep {
-                return Compiled::Refused { number: 4, place: 0 };
+                return Compiled::Refused {
+                    number: 4,
+                    place: 0,
+                };
             }
             if MOST_STEPS < steps {
-                return Compiled::Refused { number: 5, place: 0 };
+                return Compiled::Refused {
+                    number: 5,
+                    place: 0,
+                };
             }
             written(emit::emit(&cells, &labels, nul, steps, k, room))
         }
@@ -70,7 +96,10 @@ pub fn compile_card(text: &[u8], room: &mut [u32]) -> Compiled
     ensures { λ r. ⌜ CompilesCard (now (text .entry)) (now (room .entry)) (now (room .exit)) (compiled r) ⌝ }
 {
     match card::form_of(text) {
-        Form::Wrong { line } => Compiled::Refused { number: 10, place: line },
+        Form::Wrong { line } => Compiled::Refused {
+            number: 10,
+            place: line,
+        },
         Form::Right { vars, from, to } => compile(vars, &text[from..to], room),
     }
 }

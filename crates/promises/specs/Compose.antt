@@ -38,6 +38,7 @@ module _ {K : ℕ} {s rm line : List ℕ} (big : length rm ≡ room) where
       at-most : Dec (length s ≤ mostText) → length s ≤ mostText
       at-most (yes k) = k
       at-most (no k) = absurd (low 2 0 (omega arith) (made.long (omega arith)))
+
       at-most-2 : Dec (stepsOf a ≤ mostSteps) → stepsOf a ≤ mostSteps
       at-most-2 (yes k) = k
       at-most-2 (no k) = absurd (low 5 0 (omega arith) (made.steps p (omega arith)))
@@ -80,19 +81,26 @@ module _ {K : ℕ} {s rm : List ℕ} (sound : (n p : ℕ) → made.Fails K s rm 
     where
       short : length s ≤ mostText
       short = short-of (decLe (length s) mostText)
+
       steps : stepsOf a ≤ mostSteps
       steps = few-steps-of p (decLe (stepsOf a) mostSteps)
+
       vars : K ≤ mostVars
       vars = few-vars-of (decLe K mostVars)
+
       is : (rest : List ℕ) × (ex ≡ tableWords K a ++ rest)
       is = (drop (length ws) rm, e ∙ ap (λ (l : List ℕ). l ++ drop (length ws) rm) (table-one t (exact p short)))
+
       right-table : RightTable ex
       right-table = is-right p short steps vars ex line is
+
       fit : ((n : ℕ) → answers.Fails ex line n → ⊥) → (n q : ℕ) → Fails K s line n q → ⊥
       fit f n q g = f 8 (answers.long (only-line g .1))
+
       refused-so : {n : ℕ} → answers.Fails ex line n → TextAnswer K s line (refusal n 0)
       refused-so (answers.table h) = absurd (h right-table)
       refused-so (answers.long h) = text.refused (text.long-line h) (λ m q k g. omega (arith, only-line g .0))
+
       go : {q : Printed} → BestAnswer ex line q → TextAnswer K s line q
       go (answers.not-read f low) = refused-so f
       go (answers.best {w = w} {t = u} f i) = text.best (fit f) (best-text p short steps vars ex line is w u i)
@@ -105,6 +113,7 @@ refused-so {card} {rm} {ex} {line} big c = go c refl
     inner : {K : ℕ} {s : List ℕ} {a : made.Printed} {n q : ℕ} → Compiles K s rm ex a → a ≡ made.refusal n q → TextAnswer K s line (refusal n q)
     inner (made.refused f low e) i = let j : made.refusal _ _ ≡ made.refusal _ _ = i in rw (← ap (λ (x : made.Printed). x .number) i, ← ap (λ (x : made.Printed). x .place) i) (refused-text big f low)
     inner (made.table sound p t e) i = absurd (omega (arith, ap (λ (x : made.Printed). x .words) i))
+
     go : {a : made.Printed} {n q : ℕ} → CompilesCard card rm ex a → a ≡ made.refusal n q → CardAnswer card line (refusal n q)
     go (made.wrong-one f e) i = rw (← ap (λ (x : made.Printed). x .number) i, ← ap (λ (x : made.Printed). x .place) i) (text.wrong-one f)
     go (made.wrong-two r o f e) i = rw (← ap (λ (x : made.Printed). x .number) i, ← ap (λ (x : made.Printed). x .place) i) (text.wrong-two r o f)
@@ -125,6 +134,7 @@ read-so {card} {rm} {ex} {line} {a = a} big c b = go c refl
         some (made.steps p h) = omega arith
         some (made.small p t h) = omega arith
     inner (made.table sound p t e) i = read-text sound p t e b
+
     go : {p : made.Printed} {n : ℕ} → CompilesCard card rm ex p → p ≡ made.written n → CardAnswer card line a
     go (made.wrong-one f e) i = absurd (omega (arith, ap (λ (x : made.Printed). x .number) i))
     go (made.wrong-two r o f e) i = absurd (omega (arith, ap (λ (x : made.Printed). x .number) i))

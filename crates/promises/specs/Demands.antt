@@ -159,18 +159,19 @@ compiled-only {K} {text} {room} (made.table {a = a} {ws = ws} sound p t e) h =
       few-steps = few-steps-of sound p (decLe (stepsOf a) mostSteps);
       words = ws;
       exactly = t;
-      enough = wide (decLe (length ws) (length room))
+      enough = wide (decLe (length ws) (length room));
     }
   where
     flat : Dec (nestingOf a ≤ mostNesting) → nestingOf a ≤ mostNesting
     flat (yes h) = h
     flat (no h) = absurd (sound 4 0 (made.nesting p (omega arith)))
+
     wide : Dec (length ws ≤ length room) → length ws ≤ length room
     wide (yes h) = h
     wide (no h) = absurd (sound 6 (length ws) (made.small p t (omega arith)))
 
 pub text-is : {K : ℕ} {text room exit : List ℕ} {a : made.Printed} → Compiles K text room exit a → a .number ≡ 0 → (line : List ℕ) (t : Spans)
-  → WeightOfText K text line t (weightOfSet (automatonOf exit) line t)
+    → WeightOfText K text line t (weightOfSet (automatonOf exit) line t)
 text-is (made.refused f low e) h line t = absurd (omega (arith, one-to-six f .0))
 text-is {K} {text} {room} (made.table {a = a} {ws = ws} sound p t e) h line s =
     rw (e, table-one t (exact p (short-of sound (decLe (length text) mostText))))
@@ -178,5 +179,5 @@ text-is {K} {text} {room} (made.table {a = a} {ws = ws} sound p t e) h line s =
 
 -- the mark on one side exactly where it is on the other
 pub mark-is : {K : ℕ} {text room exit : List ℕ} {a : made.Printed} → Compiles K text room exit a → a .number ≡ 0 → (line : List ℕ) (t : Spans)
-  → weightOfSet (automatonOf exit) line t ≡ mark ↔ WeightOfText K text line t mark
+    → weightOfSet (automatonOf exit) line t ≡ mark ↔ WeightOfText K text line t mark
 mark-is c h line t = ((λ e. rw e at (text-is c h line t)), (λ w. text-weight-one (text-is c h line t) w))

@@ -74,6 +74,7 @@ pin x p = go (ℕ-discrete x p)
         leb-so a b e = borrow.Author.Tests.leb-true a b e
     apart f true false e g = refl
     apart f false b e g = refl
+
     go : Dec (x ≡ p) → (leb x p && leb p x) ≡ eqb x p
     go (yes e) = rw (le-leb x p (omega arith), le-leb p x (omega arith), eq-eqb x p e)
     go (no e) = apart e (leb x p) (leb p x) refl refl ∙ sym (ne-eqb x p e)

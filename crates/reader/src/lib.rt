@@ -27,18 +27,31 @@ pub fn weight_of_set(table: &[u32], line: &[u8], set: Spans) -> Weighed
     ensures { λ r. ⌜ SetAnswer (now (table .entry)) (now (line .entry)) set (weighed r) ⌝ }
 {
     if !table::is_right(table) {
-        return Weighed::Refused { number: 7, place: 0 };
+        return Weighed::Refused {
+            number: 7,
+            place: 0,
+        };
     }
     if MOST_BYTES < line.len() {
-        return Weighed::Refused { number: 8, place: 0 };
+        return Weighed::Refused {
+            number: 8,
+            place: 0,
+        };
     }
     let k = table[1];
     if !set.is_set(k, line.len()) {
-        return Weighed::Refused { number: 9, place: 0 };
+        return Weighed::Refused {
+            number: 9,
+            place: 0,
+        };
     }
     let at = [set.s1, set.e1, set.s2, set.e2, set.s3, set.e3];
     let cell = layer::sweep(table, line, &at, &at);
-    Weighed::Weighs { weight: Weight { number: cell.weight } }
+    Weighed::Weighs {
+        weight: Weight {
+            number: cell.weight,
+        },
+    }
 }
 
 // The set whose positions a key packs, in base 1,026.
@@ -59,10 +72,16 @@ pub fn best_reading(table: &[u32], line: &[u8]) -> Answer
     ensures { λ r. ⌜ BestAnswer (now (table .entry)) (now (line .entry)) (read r) ⌝ }
 {
     if !table::is_right(table) {
-        return Answer::Refused { number: 7, place: 0 };
+        return Answer::Refused {
+            number: 7,
+            place: 0,
+        };
     }
     if MOST_BYTES < line.len() {
-        return Answer::Refused { number: 8, place: 0 };
+        return Answer::Refused {
+            number: 8,
+            place: 0,
+        };
     }
     let lo = [0u32; 6];
     let hi = [1025u32; 6];
@@ -70,5 +89,10 @@ pub fn best_reading(table: &[u32], line: &[u8]) -> Answer
     if cell.weight == 4294967295 {
         return Answer::NoReading;
     }
-    Answer::Reading { weight: Weight { number: cell.weight }, spans: spans_of(cell.key) }
+    Answer::Reading {
+        weight: Weight {
+            number: cell.weight,
+        },
+        spans: spans_of(cell.key),
+    }
 }
