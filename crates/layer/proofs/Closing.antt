@@ -10,17 +10,19 @@ use native.Mathlib.Nat.{one-le-pow}
 use lib.ListN.{length, getD, set}
 use lib.Dec.{ltb, eqb}
 use borrow.Author.Tests.{eq-eqb, ne-eqb, lt-ltb, le-ltb}
-use Rattle.weight.specs.Weight.{lighterTo, jointTo}
+use Rattle.weight.specs.Weight.{mark, lighterTo, jointTo}
 use Rattle.weight.specs.Semiring.{sum}
 use Rattle.weight.specs.Sums.{sum-ext}
-use Rattle.weight.specs.Tropical.{least, lighter-assoc}
+use Rattle.weight.specs.Tropical.{least, lighter-assoc, joint-cap}
 use Rattle.setting.specs.Setting.{moveOf, digitOf, Moves}
+use Rattle.marks.specs.Labels.{isByte}
 use Rattle.table.specs.declared.Row.{Row}
+use Rattle.table.specs.Table.{labelOf}
 use Rattle.togo.specs.ToGo.{marker}
 use Rattle.togo.specs.Price.{base, cap}
 use Rattle.layer.specs.Layer.{Cells, cells, carries, shut, Closed}
 use Rattle.layer.specs.Parts.{OneClosed, ClosedAt}
-use Rattle.layer.proofs.Grid.{cell-low, lighter-cap, wrote-other, wrote-same, sum-snoc}
+use Rattle.layer.proofs.Grid.{cell-low, dead, lighter-cap, wrote-other, wrote-same, sum-snoc}
 
 pub moves-up : (u m : ℕ) → u < 27 → u < moveOf u m
 unfolding moveOf
@@ -47,12 +49,23 @@ module _ (ts : List ℕ) (l : Cells) (q u : ℕ) (r : Row) where
   unfolding carries
   carries-shut e = rw (e, le-ltb shut shut (omega arith), and-false, and-false)
 
+  pub carries-dead : l (r .to) (moveOf u (marker r)) ≡ cap → carries ts l q u r ≡ cap
+  unfolding carries
+  carries-dead e = rw e (none-either (not (isByte (labelOf r)) && (ltb (moveOf u (marker r)) 27 && (ltb (getD ts (marker r) 0) shut && eqb (r .from) q))))
+    where
+      none-either : (t : Bool) → cond t (jointTo cap (r .weight * base + getD ts (marker r) 0) cap) cap ≡ cap
+      none-either true = joint-cap cap _
+      none-either false = refl
+
 module _ (ts : List ℕ) (r : Row) (u : ℕ) (nw nk : List ℕ) where
   skip : ((q : ℕ) → carries ts (cells nw nk) q u r ≡ cap) → OneClosed ts r u (cells nw nk) (cells nw nk)
   skip h = record { here = λ q. rw (h q) (sym (lighter-cap _ (cell-low nw nk q u))); there = λ q w a d. refl }
 
   pub one-out : (d : ℕ) → d ≡ moveOf u (marker r) → 27 ≤ d → OneClosed ts r u (cells nw nk) (cells nw nk)
   one-out d e h = skip (λ q. carries-out ts (cells nw nk) q u r (rw e at h))
+
+  pub one-dead : (t d : ℕ) → t ≡ r .to → d ≡ moveOf u (marker r) → getD nw (t * 27 + d) 0 ≡ mark → OneClosed ts r u (cells nw nk) (cells nw nk)
+  one-dead t d et ed e = skip (λ q. carries-dead ts (cells nw nk) q u r (dead nw nk (r .to) (moveOf u (marker r)) (rw (et, ed) at e)))
 
   pub one-shut : (m : ℕ) → m ≡ marker r → getD ts m 0 ≡ shut → OneClosed ts r u (cells nw nk) (cells nw nk)
   one-shut m e h = skip (λ q. carries-shut ts (cells nw nk) q u r (rw e at h))

@@ -6,7 +6,7 @@ use native.Mathlib.Omega.{arith}
 use native.Mathlib.Decide.{decLt}
 use lib.ListN.{length, getD, set}
 use lib.Seq.{getD-set-same, getD-set-other}
-use Rattle.weight.specs.Weight.{lighterTo, jointTo}
+use Rattle.weight.specs.Weight.{mark, lighterTo, jointTo}
 use Rattle.weight.specs.Semiring.{sum}
 use Rattle.weight.specs.Sums.{sum-append, zero-sum}
 use Rattle.weight.specs.Tropical.{least, lighter-assoc, lighter-comm}
@@ -52,6 +52,14 @@ module _ (ws ks : List ℕ) (q u w k : ℕ) where
   pub wrote-same : (ow ok : List ℕ) (t v p x : ℕ) → q * 27 + u < length ws → q * 27 + u < length ks → x ≡ jointTo cap p (getD ow (t * 27 + v) 0 * base + getD ok (t * 27 + v) 0) → w * base + k ≡ lighterTo cap (getD ws (q * 27 + u) 0 * base + getD ks (q * 27 + u) 0) x → cells (set ws (q * 27 + u) w) (set ks (q * 27 + u) k) q u ≡ lighterTo cap (cells ws ks q u) (jointTo cap p (cells ow ok t v))
   unfolding cells
   wrote-same ow ok t v p x h g ex ey = rw (getD-set-same ws (q * 27 + u) w 0 h, getD-set-same ks (q * 27 + u) k 0 g) (cut _ _ p x (w * base + k) ex ey)
+
+-- a cell whose weight is the mark is none, and brings nothing
+pub dead : (ws ks : List ℕ) (q u : ℕ) → getD ws (q * 27 + u) 0 ≡ mark → cells ws ks q u ≡ cap
+unfolding cells
+dead ws ks q u e = rw e (over (getD ks (q * 27 + u) 0))
+  where
+    over : (k : ℕ) → min cap (mark * base + k) ≡ cap
+    over k = omega arith
 
 -- a sum over one row more
 pub sum-snoc : {A : Type 0} (f : A → ℕ) (xs : List A) (x : A) → sum (least cap) f (xs ++ (x ∷ [])) ≡ lighterTo cap (sum (least cap) f xs) (f x)

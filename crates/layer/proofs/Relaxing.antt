@@ -8,9 +8,9 @@ use native.Mathlib.Decide.{ℕ-discrete}
 use lib.ListN.{length, getD, set}
 use lib.Dec.{eqb}
 use borrow.Author.Tests.{eq-eqb, ne-eqb}
-use Rattle.weight.specs.Weight.{lighterTo, jointTo}
+use Rattle.weight.specs.Weight.{mark, lighterTo, jointTo}
 use Rattle.weight.specs.Semiring.{sum}
-use Rattle.weight.specs.Tropical.{least, lighter-assoc}
+use Rattle.weight.specs.Tropical.{least, lighter-assoc, joint-cap}
 use Rattle.basics.specs.Every.{and-true}
 use Rattle.marks.specs.Labels.{isByte, reads}
 use Rattle.table.specs.declared.Row.{Row}
@@ -19,7 +19,7 @@ use Rattle.table.specs.Rows.{rows-more}
 use Rattle.togo.specs.Price.{base, cap}
 use Rattle.layer.specs.Layer.{Cells, cells, brings, Relaxed}
 use Rattle.layer.specs.Parts.{RowRelaxed, OneRelaxed}
-use Rattle.layer.proofs.Grid.{cell-low, lighter-cap, wrote-other, wrote-same, sum-snoc}
+use Rattle.layer.proofs.Grid.{cell-low, dead, lighter-cap, wrote-other, wrote-same, sum-snoc}
 
 pub row-none : (low from to price : ℕ) (old new : Cells) → RowRelaxed low from to price low old new new
 row-none low from to price old new = record { done = λ u l h. absurd (omega arith); kept = λ q u h d. refl }
@@ -38,6 +38,18 @@ module _ (low from to price u : ℕ) (ow ok : List ℕ) (new : Cells) (mw mk : L
       at-v : (v : ℕ) → low ≤ v → v < u + 1 → Dec (v ≡ u) → cells (set mw (from * 27 + u) w) (set mk (from * 27 + u) k) from v ≡ lighterTo cap (new from v) (jointTo cap price (cells ow ok to v))
       at-v v l h (yes e) = rw e now-u
       at-v v l h (no d) = wrote-other mw mk from u w k hu from v (omega arith) (λ e f. d f) ∙ r .done v l (omega arith)
+
+  pub row-skip : getD ow (to * 27 + u) 0 ≡ mark → RowRelaxed low from to price (u + 1) (cells ow ok) new (cells mw mk)
+  row-skip e = record { done = λ v l h. at-v v l h (ℕ-discrete v u); kept = λ q v h d. r .kept q v h (λ e. let g = d e in omega arith) }
+    where
+      now-u : cells mw mk from u ≡ lighterTo cap (new from u) (jointTo cap price (cells ow ok to u))
+      now-u =
+          sym (lighter-cap _ (cell-low mw mk from u))
+          ∙ ap₂ (lighterTo cap) (r .kept from u hu (λ e. omega arith)) (sym (ap (jointTo cap price) (dead ow ok to u e) ∙ joint-cap cap price))
+
+      at-v : (v : ℕ) → low ≤ v → v < u + 1 → Dec (v ≡ u) → cells mw mk from v ≡ lighterTo cap (new from v) (jointTo cap price (cells ow ok to v))
+      at-v v l h (yes e) = rw e now-u
+      at-v v l h (no d) = r .done v l (omega arith)
 
 -- a row that does not read the byte brings nothing anywhere
 pub one-no : (low b : ℕ) (r : Row) (old : Cells) (nw nk : List ℕ) → (isByte (labelOf r) && reads (labelOf r) b) ≡ false → OneRelaxed low b r old (cells nw nk) (cells nw nk)

@@ -68,7 +68,7 @@ fn reads(r: Row, b: u32) -> bool
     b <= r.argument % 256
 }
 
-// State `from` takes what `to` has, at each setting in use.
+// State `from` takes what `to` has, at each setting in use. Most cells of a real card are empty, and are passed over.
 fn relax_row<'a, 'b>(
     from: usize,
     to: usize,
@@ -85,19 +85,22 @@ fn relax_row<'a, 'b>(
 {
     let mut u = low;
     while u < 27 {
-        let here = from * 27 + u;
         let there = to * 27 + u;
-        let far = Cell {
-            weight: ow[there],
-            key: ok[there],
-        };
-        let near = Cell {
-            weight: nw[here],
-            key: nk[here],
-        };
-        let c = near.lighter(price.sum(far));
-        nw[here] = c.weight;
-        nk[here] = c.key;
+        let weight = ow[there];
+        if weight != 4294967295 {
+            let here = from * 27 + u;
+            let far = Cell {
+                weight,
+                key: ok[there],
+            };
+            let near = Cell {
+                weight: nw[here],
+                key: nk[here],
+            };
+            let c = near.lighter(price.sum(far));
+            nw[here] = c.weight;
+            nk[here] = c.key;
+        }
         u += 1;
     }
 }
@@ -249,10 +252,14 @@ fn close_one<'b>(
     if toll == 18446744073709551615 {
         return;
     }
-    let here = wide(r.from) * 27 + u;
     let there = wide(r.to) * 27 + d;
+    let weight = nw[there];
+    if weight == 4294967295 {
+        return;
+    }
+    let here = wide(r.from) * 27 + u;
     let far = Cell {
-        weight: nw[there],
+        weight,
         key: nk[there],
     };
     let near = Cell {

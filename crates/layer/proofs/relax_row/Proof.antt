@@ -1,12 +1,13 @@
 -- `relax_row`: the loop goes on from the settings that are done to one more.
-use mathlib.Core.Path.{_≡_}
+use mathlib.Core.Path.{_≡_, ap, _∙_}
+use mathlib.Core.Logic.{⊎-elim}
 use Prim.Native.Nat.{_≤_, _-_}
 use native.Mathlib.Omega.{arith}
-use lib.ListN.{length}
+use lib.ListN.{length, length-set}
 use Rattle.cell.specs.Value.{value}
 use Rattle.layer.specs.Layer.{cells}
 use Rattle.layer.specs.Parts.{RowRelaxed}
-use Rattle.layer.proofs.Relaxing.{row-none, row-more}
+use Rattle.layer.proofs.Relaxing.{row-none, row-more, row-skip}
 use borrow.Author.Needs.{needs}
 use Rattle.layer.proofs.relax_row.Statement.{statement}
 use Rattle.layer.proofs.relax_row.Tie as tie
@@ -20,41 +21,41 @@ abbrev μ-loop : tie.MeasureT-loop
 loop-holds : tie.Need-loop-holds Inv-loop μ-loop
 loop-holds c = (search needs, search needs, search needs, row-none _ _ _ _ _ _)
 
-mul-here : tie.Need-mul-here Inv-loop μ-loop
-mul-here c = search needs
-
-add-here : tie.Need-add-here Inv-loop μ-loop
-add-here c = search needs
-
 mul-there : tie.Need-mul-there Inv-loop μ-loop
 mul-there c = search needs
 
 add-there : tie.Need-add-there Inv-loop μ-loop
 add-there c = search needs
 
-mul-t16 : tie.Need-mul-t16 Inv-loop μ-loop
-mul-t16 c = search needs
+mul-weight : tie.Need-mul-weight Inv-loop μ-loop
+mul-weight c = search needs
 
-shared-slice-read-t18 : tie.Need-shared-slice-read-t18 Inv-loop μ-loop
-shared-slice-read-t18 c = search needs
+shared-slice-read-weight : tie.Need-shared-slice-read-weight Inv-loop μ-loop
+shared-slice-read-weight c = search needs
 
-mul-t19 : tie.Need-mul-t19 Inv-loop μ-loop
-mul-t19 c = search needs
+mul-here : tie.Need-mul-here Inv-loop μ-loop
+mul-here c = search needs
 
-shared-slice-read-t21 : tie.Need-shared-slice-read-t21 Inv-loop μ-loop
-shared-slice-read-t21 c = search needs
+add-here : tie.Need-add-here Inv-loop μ-loop
+add-here c = search needs
 
-mul-t16-2 : tie.Need-mul-t16-2 Inv-loop μ-loop
-mul-t16-2 c = search needs
+mul-t20 : tie.Need-mul-t20 Inv-loop μ-loop
+mul-t20 c = search needs
 
-slice-read-t18 : tie.Need-slice-read-t18 Inv-loop μ-loop
-slice-read-t18 c = search needs
+shared-slice-read-t22 : tie.Need-shared-slice-read-t22 Inv-loop μ-loop
+shared-slice-read-t22 c = search needs
 
-mul-t19-2 : tie.Need-mul-t19-2 Inv-loop μ-loop
-mul-t19-2 c = search needs
+mul-t20-2 : tie.Need-mul-t20-2 Inv-loop μ-loop
+mul-t20-2 c = search needs
 
-slice-read-t21 : tie.Need-slice-read-t21 Inv-loop μ-loop
-slice-read-t21 c = search needs
+slice-read-t24 : tie.Need-slice-read-t24 Inv-loop μ-loop
+slice-read-t24 c = search needs
+
+mul-t25 : tie.Need-mul-t25 Inv-loop μ-loop
+mul-t25 c = search needs
+
+slice-read-t22 : tie.Need-slice-read-t22 Inv-loop μ-loop
+slice-read-t22 c = search needs
 
 sum-requires : tie.Need-sum-requires Inv-loop μ-loop
 sum-requires c κs = search needs
@@ -81,7 +82,11 @@ loop-less : tie.Need-loop-less Inv-loop μ-loop
 loop-less c = search needs
 
 loop-again : tie.Need-loop-again Inv-loop μ-loop
-loop-again c = (search needs, search needs, search needs, row-more _ _ _ _ _ _ _ _ _ _ (c .before .before .before .before .before .before .before .loop .inv .3) (omega arith) _ _ _ (omega arith) (omega arith) (c .before .sum .ensures) (c .lighter .ensures))
+loop-again c = let inv = c .before .before .before .loop .inv in
+    ⊎-elim
+    (λ w. (omega arith, ap length (w .6) ∙ (simp length-set) ∙ inv .1, ap length (w .7) ∙ (simp length-set) ∙ inv .2, rw (w .6, w .7) (row-more _ _ _ _ _ _ _ _ _ _ (inv .3) (omega arith) _ _ _ (omega arith) (omega arith) (w .4 .ensures) (w .5 .ensures))))
+    (λ w. (omega arith, ap length (w .1) ∙ inv .1, ap length (w .2) ∙ inv .2, rw (w .1, w .2) (row-skip _ _ _ _ _ _ _ _ _ _ (inv .3) (omega arith) (w .0 .left))))
+    (c .if1 .came)
 
 same-length : tie.Need-same-length Inv-loop μ-loop
 same-length c = search needs
@@ -99,18 +104,18 @@ relax-row-spec =
     Inv-loop
     μ-loop
     loop-holds
-    mul-here
-    add-here
     mul-there
     add-there
-    mul-t16
-    shared-slice-read-t18
-    mul-t19
-    shared-slice-read-t21
-    mul-t16-2
-    slice-read-t18
-    mul-t19-2
-    slice-read-t21
+    mul-weight
+    shared-slice-read-weight
+    mul-here
+    add-here
+    mul-t20
+    shared-slice-read-t22
+    mul-t20-2
+    slice-read-t24
+    mul-t25
+    slice-read-t22
     sum-requires
     lighter-requires
     mul-nw
