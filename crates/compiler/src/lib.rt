@@ -31,6 +31,13 @@ fn narrow(n: usize) -> u32
     n as u32
 }
 
+// A refusal with place 0.
+fn refusal(number: u32) -> Compiled
+    ensures { λ r. ⌜ r ≡ Compiled.Refused number 0 ⌝ }
+{
+    Compiled::Refused { number, place: 0 }
+}
+
 // The table of a text that is right, from its cells and labels.
 fn written(e: Emitted) -> Compiled
     requires { ⌜ Small e ⌝ }
@@ -50,16 +57,10 @@ pub fn compile(k: u32, pattern: &[u8], room: &mut [u32]) -> Compiled
     ensures { λ r. ⌜ Compiles k (now (pattern .entry)) (now (room .entry)) (now (room .exit)) (compiled r) ⌝ }
 {
     if MOST_VARS < k {
-        return Compiled::Refused {
-            number: 1,
-            place: 0,
-        };
+        return refusal(1);
     }
     if MOST_TEXT < pattern.len() {
-        return Compiled::Refused {
-            number: 2,
-            place: 0,
-        };
+        return refusal(2);
     }
     let mut cells = [0u32; 1024];
     let mut labels = [0u32; 64];
@@ -75,16 +76,10 @@ pub fn compile(k: u32, pattern: &[u8], room: &mut [u32]) -> Compiled
             nul,
         } => {
             if MOST_NESTING < deep {
-                return Compiled::Refused {
-                    number: 4,
-                    place: 0,
-                };
+                return refusal(4);
             }
             if MOST_STEPS < steps {
-                return Compiled::Refused {
-                    number: 5,
-                    place: 0,
-                };
+                return refusal(5);
             }
             written(emit::emit(&cells, &labels, nul, steps, k, room))
         }

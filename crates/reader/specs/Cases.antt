@@ -1,6 +1,6 @@
 -- The cases of reading, one for each number and one for each answer: what the code has seen makes the answer right.
 --
--- at-key          the two parts of a cell's value
+-- Refuses         what `refused` answers: 7, 8 or 0
 -- open-ranges, pinned-ranges   the ranges that the two questions are asked with
 use mathlib.Core.Path.{_≡_, refl, sym, ap, _∙_}
 use mathlib.Core.Bool.{Bool, true, false, _&&_}
@@ -22,46 +22,62 @@ use Rattle.best.specs.Questions.{Open, set-answer, best-answer, none-answer}
 use Rattle.reader.specs.Answers.{Printed, reading, noReading, refusal, Fails, table, long, FailsSet, reading-it, no-set, BestAnswer, not-read, best, no-run, SetAnswer, not-weighed, weight}
 use Rattle.spans.specs.Spans.{none}
 
-module _ {ws line : List ℕ} where
-  seven-least : (m : ℕ) → m < 7 → Fails ws line m → ⊥
-  seven-least m h (table f) = omega arith
-  seven-least m h (long g) = omega arith
+-- the lowest of 7 and 8 that could be given, or 0
+pub data Refuses (ws line : List ℕ) : ℕ → Type 0 where
+  by : {n : ℕ} → 0 < n → Fails ws line n → ((m : ℕ) → m < n → Fails ws line m → ⊥) → Refuses ws line n
+  fits : RightTable ws → length line ≤ mostBytes → Refuses ws line 0
 
-  eight-least : RightTable ws → (m : ℕ) → m < 8 → Fails ws line m → ⊥
-  eight-least r m h (table f) = f r
-  eight-least r m h (long g) = omega arith
+-- 0 says that the table is right and the line short enough
+pub record Readable (ws line : List ℕ) : Type 0 where
+  pub right : RightTable ws
+  pub short : length line ≤ mostBytes
+
+module _ {ws line : List ℕ} where
+  pub seven : (RightTable ws → ⊥) → Refuses ws line 7
+  seven f = by {n = 7} (omega arith) (table f) low
+    where
+      low : (m : ℕ) → m < 7 → Fails ws line m → ⊥
+      low m h (table f) = omega arith
+      low m h (long g) = omega arith
+
+  pub eight : RightTable ws → mostBytes < length line → Refuses ws line 8
+  eight r h = by {n = 8} (omega arith) (long h) low
+    where
+      low : (m : ℕ) → m < 8 → Fails ws line m → ⊥
+      low m h (table f) = f r
+      low m h (long g) = omega arith
 
   fit : RightTable ws → length line ≤ mostBytes → (m : ℕ) → Fails ws line m → ⊥
   fit r l m (table f) = f r
   fit r l m (long g) = omega arith
 
-  pub wrong-table : (RightTable ws → ⊥) → BestAnswer ws line (refusal 7 0)
-  wrong-table f = not-read (table f) seven-least
+  -- a number that is not 0 is the answer
+  pub not-read-so : {n : ℕ} → (n ≡ 0 → ⊥) → Refuses ws line n → BestAnswer ws line (refusal n 0)
+  not-read-so d (by h f low) = not-read f low
+  not-read-so d (fits r l) = absurd (d refl)
 
-  pub long-line : RightTable ws → mostBytes < length line → BestAnswer ws line (refusal 8 0)
-  long-line r h = not-read (long h) (eight-least r)
+  at-most : {n : ℕ} → Fails ws line n → n ≤ 8
+  at-most (table f) = omega arith
+  at-most (long g) = omega arith
 
-  module _ {t : Spans} where
-    pub wrong-table-set : (RightTable ws → ⊥) → SetAnswer ws line t (refusal 7 0)
-    wrong-table-set f = not-weighed (reading-it (table f)) low
-      where
-        low : (m : ℕ) → m < 7 → FailsSet ws line t m → ⊥
-        low m h (reading-it g) = seven-least m h g
-        low m h (no-set g) = omega arith
+  pub not-weighed-so : {t : Spans} {n : ℕ} → (n ≡ 0 → ⊥) → Refuses ws line n → SetAnswer ws line t (refusal n 0)
+  not-weighed-so {t} d (by {n = n} h f low) = not-weighed (reading-it f) lows
+    where
+      lows : (m : ℕ) → m < n → FailsSet ws line t m → ⊥
+      lows m k (reading-it g) = low m k g
+      lows m k (no-set g) = omega (arith, at-most f)
+  not-weighed-so d (fits r l) = absurd (d refl)
 
-    pub long-line-set : RightTable ws → mostBytes < length line → SetAnswer ws line t (refusal 8 0)
-    long-line-set r h = not-weighed (reading-it (long h)) low
-      where
-        low : (m : ℕ) → m < 8 → FailsSet ws line t m → ⊥
-        low m h (reading-it g) = eight-least r m h g
-        low m h (no-set g) = omega arith
+  pub readable : {n : ℕ} → n ≡ 0 → Refuses ws line n → Readable ws line
+  readable e (by h f low) = absurd (omega arith)
+  readable e (fits r l) = record { right = r; short = l }
 
-    pub not-a-set : RightTable ws → length line ≤ mostBytes → (SetOfSpans (automatonOf ws .vars) (length line) t → ⊥) → SetAnswer ws line t (refusal 9 0)
-    not-a-set r l f = not-weighed (no-set f) low
-      where
-        low : (m : ℕ) → m < 9 → FailsSet ws line t m → ⊥
-        low m h (reading-it g) = fit r l m g
-        low m h (no-set g) = omega arith
+  pub not-a-set : {t : Spans} → RightTable ws → length line ≤ mostBytes → (SetOfSpans (automatonOf ws .vars) (length line) t → ⊥) → SetAnswer ws line t (refusal 9 0)
+  not-a-set {t} r l f = not-weighed (no-set f) low
+    where
+      low : (m : ℕ) → m < 9 → FailsSet ws line t m → ⊥
+      low m h (reading-it g) = fit r l m g
+      low m h (no-set g) = omega arith
 
 -- one range that is a position
 pin : (x p : ℕ) → (leb x p && leb p x) ≡ eqb x p

@@ -1,14 +1,16 @@
 // The two questions asked of a table (01, "The table"): the weight of a given set, and the best reading of a line.
 // Both are one backward pass over the line; numbers 7, 8 and 9 are given here. Any words, any line, any six numbers.
 ghost use mathlib.Core.Path.{_≡_};
-ghost use Prim.Native.Nat.{_<_};
 ghost use Rattle.best.specs.Decode.{spansOfKey};
 ghost use Rattle.reader.specs.Answers.{weighed, read, SetAnswer, BestAnswer};
+ghost use Rattle.reader.specs.Cases.{Refuses};
 use spans::Spans;
 use weight::Weight;
 
 // The longest line that is read.
 pub const MOST_BYTES: usize = 1024;
+
+const MARK: u32 = Weight::MARK.number;
 
 // What is said of a set: its weight, the mark included, or a refusal.
 pub enum Weighed {
@@ -23,20 +25,25 @@ pub enum Answer {
     Refused { number: u32, place: u32 },
 }
 
+// Number 7 or 8, or 0 where the line can be read by the table.
+fn refused(table: &[u32], line: &[u8]) -> u32
+    ensures { λ r. ⌜ Refuses (now (table .entry)) (now (line .entry)) r ⌝ }
+{
+    if !table::is_right(table) {
+        return 7;
+    }
+    if MOST_BYTES < line.len() {
+        return 8;
+    }
+    0
+}
+
 pub fn weight_of_set(table: &[u32], line: &[u8], set: Spans) -> Weighed
     ensures { λ r. ⌜ SetAnswer (now (table .entry)) (now (line .entry)) set (weighed r) ⌝ }
 {
-    if !table::is_right(table) {
-        return Weighed::Refused {
-            number: 7,
-            place: 0,
-        };
-    }
-    if MOST_BYTES < line.len() {
-        return Weighed::Refused {
-            number: 8,
-            place: 0,
-        };
+    let number = refused(table, line);
+    if number != 0 {
+        return Weighed::Refused { number, place: 0 };
     }
     let k = table[1];
     if !set.is_set(k, line.len()) {
@@ -46,12 +53,9 @@ pub fn weight_of_set(table: &[u32], line: &[u8], set: Spans) -> Weighed
         };
     }
     let at = [set.s1, set.e1, set.s2, set.e2, set.s3, set.e3];
-    let cell = layer::sweep(table, line, &at, &at);
-    Weighed::Weighs {
-        weight: Weight {
-            number: cell.weight,
-        },
-    }
+    let sum = layer::sweep(table, line, &at, &at);
+    let weight = Weight { number: sum.weight };
+    Weighed::Weighs { weight }
 }
 
 // The set whose positions a key packs, in base 1,026.
@@ -71,28 +75,19 @@ fn spans_of(key: u64) -> Spans
 pub fn best_reading(table: &[u32], line: &[u8]) -> Answer
     ensures { λ r. ⌜ BestAnswer (now (table .entry)) (now (line .entry)) (read r) ⌝ }
 {
-    if !table::is_right(table) {
-        return Answer::Refused {
-            number: 7,
-            place: 0,
-        };
-    }
-    if MOST_BYTES < line.len() {
-        return Answer::Refused {
-            number: 8,
-            place: 0,
-        };
+    let number = refused(table, line);
+    if number != 0 {
+        return Answer::Refused { number, place: 0 };
     }
     let lo = [0u32; 6];
     let hi = [1025u32; 6];
     let cell = layer::sweep(table, line, &lo, &hi);
-    if cell.weight == 4294967295 {
+    if cell.weight == MARK {
         return Answer::NoReading;
     }
-    Answer::Reading {
-        weight: Weight {
-            number: cell.weight,
-        },
-        spans: spans_of(cell.key),
-    }
+    let weight = Weight {
+        number: cell.weight,
+    };
+    let spans = spans_of(cell.key);
+    Answer::Reading { weight, spans }
 }

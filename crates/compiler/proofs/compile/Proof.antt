@@ -9,11 +9,17 @@ use Rattle.compiler.specs.Made.{made-table, text-of, no-text-of, emitted
 use Rattle.compiler.proofs.compile.Statement.{statement}
 use Rattle.compiler.proofs.compile.Tie as tie
 
+refusal-requires : tie.Need-refusal-requires
+refusal-requires c κs = search needs
+
 returns : tie.Need-returns
-returns c = many-vars refl (c .if1 .taken)
+returns c = rw (c .refusal .ensures) (many-vars refl (c .before .if1 .taken))
+
+refusal-requires-2 : tie.Need-refusal-requires-2
+refusal-requires-2 c κs = search needs
 
 returns-2 : tie.Need-returns-2
-returns-2 c = long-text refl (c .before .if1 .left) (c .if2 .taken)
+returns-2 c = rw (c .refusal2 .ensures) (long-text refl (c .before .before .if1 .left) (c .before .if2 .taken))
 
 slice-aggregate-parse : tie.Need-slice-aggregate-parse
 slice-aggregate-parse c = search needs
@@ -33,11 +39,17 @@ narrow-requires c κs = let r = no-text-of (c .before .place .given .1) (c .befo
 enum-known-steps : tie.Need-enum-known-steps
 enum-known-steps c = search needs
 
+refusal-requires-3 : tie.Need-refusal-requires-3
+refusal-requires-3 c κs = search needs
+
 returns-3 : tie.Need-returns-3
-returns-3 c = let r = text-of (c .before .before .steps .given .1) (c .before .before .before .before .before .before .parse .ensures) in deep refl (c .before .before .before .before .before .before .before .before .before .before .if1 .left) (c .before .before .before .before .before .before .before .before .before .if2 .left) (r .parsed) (omega (arith, r .deep))
+returns-3 c = rw (c .refusal3 .ensures) (let r = text-of (c .before .before .before .steps .given .1) (c .before .before .before .before .before .before .before .parse .ensures) in deep refl (c .before .before .before .before .before .before .before .before .before .before .before .if1 .left) (c .before .before .before .before .before .before .before .before .before .before .if2 .left) (r .parsed) (omega (arith, r .deep)))
+
+refusal-requires-4 : tie.Need-refusal-requires-4
+refusal-requires-4 c κs = search needs
 
 returns-4 : tie.Need-returns-4
-returns-4 c = let r = text-of (c .before .before .before .steps .given .1) (c .before .before .before .before .before .before .before .parse .ensures) in many-steps refl (c .before .before .before .before .before .before .before .before .before .before .before .if1 .left) (c .before .before .before .before .before .before .before .before .before .before .if2 .left) (r .parsed) (omega (arith, r .deep)) (omega (arith, r .counts))
+returns-4 c = rw (c .refusal4 .ensures) (let r = text-of (c .before .before .before .before .steps .given .1) (c .before .before .before .before .before .before .before .before .parse .ensures) in many-steps refl (c .before .before .before .before .before .before .before .before .before .before .before .before .if1 .left) (c .before .before .before .before .before .before .before .before .before .before .before .if2 .left) (r .parsed) (omega (arith, r .deep)) (omega (arith, r .counts)))
 
 slice-aggregate-emit : tie.Need-slice-aggregate-emit
 slice-aggregate-emit c = search needs
@@ -68,7 +80,9 @@ pub compile-spec : {M : Type 1} → statement M
 compile-spec =
     tie.close
     (tie.spec
+    refusal-requires
     returns
+    refusal-requires-2
     returns-2
     slice-aggregate-parse
     slice-aggregate-parse-2
@@ -76,7 +90,9 @@ compile-spec =
     enum-known-place
     narrow-requires
     enum-known-steps
+    refusal-requires-3
     returns-3
+    refusal-requires-4
     returns-4
     slice-aggregate-emit
     slice-aggregate-emit-2
