@@ -7,7 +7,7 @@ use Prim.Native.Nat.{ℕ, _+_, _*_, _/_, _%_, _^_, _≤_, _<_}
 use native.Mathlib.Omega.{arith}
 use native.Mathlib.Decide.{ℕ-discrete, decLt}
 use native.Mathlib.Nat.{one-le-pow}
-use lib.ListN.{length, getD, set}
+use lib.ListN.{getD}
 use lib.Dec.{ltb, eqb}
 use borrow.Author.Tests.{eq-eqb, ne-eqb, lt-ltb, le-ltb}
 use Rattle.weight.specs.Weight.{mark, lighterTo, jointTo}
@@ -21,8 +21,8 @@ use Rattle.table.specs.Table.{labelOf}
 use Rattle.togo.specs.ToGo.{marker}
 use Rattle.togo.specs.Price.{base, cap}
 use Rattle.layer.specs.Layer.{Cells, cells, carries, shut, Closed}
-use Rattle.layer.specs.Parts.{OneClosed, ClosedAt}
-use Rattle.layer.proofs.Grid.{cell-low, dead, lighter-cap, wrote-other, wrote-same, sum-snoc}
+use Rattle.layer.specs.Parts.{Taken, OneClosed, ClosedAt}
+use Rattle.layer.proofs.Grid.{cell-low, dead, lighter-cap, taken-other, taken-same, sum-snoc}
 
 pub moves-up : (u m : ℕ) → u < 27 → u < moveOf u m
 unfolding moveOf
@@ -70,21 +70,19 @@ module _ (ts : List ℕ) (r : Row) (u : ℕ) (nw nk : List ℕ) where
   pub one-shut : (m : ℕ) → m ≡ marker r → getD ts m 0 ≡ shut → OneClosed ts r u (cells nw nk) (cells nw nk)
   one-shut m e h = skip (λ q. carries-shut ts (cells nw nk) q u r (rw e at h))
 
-  module _ (z : r .kind ≡ 0 → ⊥) (h : moveOf u (marker r) < 27) (a : getD ts (marker r) 0 < shut) (hu : u < 27)
-      (room : r .from * 27 + u < length nw) (room2 : r .from * 27 + u < length nk) (x w k : ℕ)
-      (ex : x ≡ jointTo cap (r .weight * base + getD ts (marker r) 0) (getD nw (r .to * 27 + moveOf u (marker r)) 0 * base + getD nk (r .to * 27 + moveOf u (marker r)) 0))
-      (ey : w * base + k ≡ lighterTo cap (getD nw (r .from * 27 + u) 0 * base + getD nk (r .from * 27 + u) 0) x) where
-    at-q : (q : ℕ) → Dec (r .from ≡ q) → cells (set nw (r .from * 27 + u) w) (set nk (r .from * 27 + u) k) q u ≡ lighterTo cap (cells nw nk q u) (carries ts (cells nw nk) q u r)
+  module _ (z : r .kind ≡ 0 → ⊥) (h : moveOf u (marker r) < 27) (a : getD ts (marker r) 0 < shut) (hu : u < 27) (lw lk : List ℕ)
+      (t : Taken (jointTo cap (r .weight * base + getD ts (marker r) 0) (getD nw (r .to * 27 + moveOf u (marker r)) 0 * base + getD nk (r .to * 27 + moveOf u (marker r)) 0)) (r .from * 27 + u) nw nk lw lk) where
+    at-q : (q : ℕ) → Dec (r .from ≡ q) → cells lw lk q u ≡ lighterTo cap (cells nw nk q u) (carries ts (cells nw nk) q u r)
     unfolding carries
     at-q q (yes s) =
         rw (ne-eqb _ _ z, lt-ltb _ _ h, lt-ltb _ _ a, eq-eqb _ _ s, ← s)
-        (wrote-same nw nk (r .from) u w k nw nk (r .to) (moveOf u (marker r)) (r .weight * base + getD ts (marker r) 0) x room room2 ex ey)
+        (taken-same nw nk lw lk (r .from) u _ t nw nk (r .to) (moveOf u (marker r)) (r .weight * base + getD ts (marker r) 0) refl)
     at-q q (no s) =
         rw (ne-eqb _ _ z, lt-ltb _ _ h, lt-ltb _ _ a, ne-eqb _ _ s)
-        (wrote-other nw nk (r .from) u w k hu q u hu (λ e f. s (sym e)) ∙ sym (lighter-cap _ (cell-low nw nk q u)))
+        (taken-other nw nk lw lk (r .from) u _ t hu q u hu (λ e f. s (sym e)) ∙ sym (lighter-cap _ (cell-low nw nk q u)))
 
-    pub one-write : OneClosed ts r u (cells nw nk) (cells (set nw (r .from * 27 + u) w) (set nk (r .from * 27 + u) k))
-    one-write = record { here = λ q. at-q q (ℕ-discrete (r .from) q); there = λ q v b d. wrote-other nw nk (r .from) u w k hu q v b (λ e f. d f) }
+    pub one-write : OneClosed ts r u (cells nw nk) (cells lw lk)
+    one-write = record { here = λ q. at-q q (ℕ-discrete (r .from) q); there = λ q v b d. taken-other nw nk lw lk (r .from) u _ t hu q v b (λ e f. d f) }
 
 -- what a marker row brings depends on the higher settings alone
 carries-ext : (ts : List ℕ) (a b : Cells) (q u : ℕ) (r : Row) → u < 27 → ((s v : ℕ) → u < v → v < 27 → a s v ≡ b s v) → carries ts a q u r ≡ carries ts b q u r

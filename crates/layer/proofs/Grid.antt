@@ -1,5 +1,5 @@
 -- A cell of two arrays, read and written.
-use mathlib.Core.Path.{_≡_, refl, sym, ap, ap₂, _∙_}
+use mathlib.Core.Path.{_≡_, sym, ap, _∙_}
 use mathlib.Core.List.{List, [], _∷_, _++_}
 use Prim.Native.Nat.{ℕ, _+_, _*_, _≤_, _<_, min}
 use native.Mathlib.Omega.{arith}
@@ -12,6 +12,7 @@ use Rattle.weight.specs.Sums.{sum-append, zero-sum}
 use Rattle.weight.specs.Tropical.{least, lighter-assoc, lighter-comm}
 use Rattle.togo.specs.Price.{base, cap}
 use Rattle.layer.specs.Layer.{cells}
+use Rattle.layer.specs.Parts.{Taken}
 
 pub cell-low : (ws ks : List ℕ) (q u : ℕ) → cells ws ks q u ≤ cap
 unfolding cells
@@ -43,15 +44,23 @@ cut-joint p x = omega arith
 cut : (a b p x y : ℕ) → x ≡ jointTo cap p b → y ≡ lighterTo cap a x → min cap y ≡ lighterTo cap (min cap a) (jointTo cap p (min cap b))
 cut a b p x y ex ey = ap (min cap) ey ∙ cut-twice a x ∙ cut-lighter a x ∙ ap (lighterTo cap (min cap a)) (ex ∙ cut-joint p b)
 
-module _ (ws ks : List ℕ) (q u w k : ℕ) where
-  pub wrote-other : u < 27 → (s v : ℕ) → v < 27 → (s ≡ q → v ≡ u → ⊥) → cells (set ws (q * 27 + u) w) (set ks (q * 27 + u) k) s v ≡ cells ws ks s v
-  unfolding cells
-  wrote-other hu s v hv d = rw (getD-set-other ws (q * 27 + u) (s * 27 + v) w 0 (apart s q v u hv hu d), getD-set-other ks (q * 27 + u) (s * 27 + v) k 0 (apart s q v u hv hu d))
+pub taken-set : (nw nk : List ℕ) (here w k x y : ℕ) → here < length nw → here < length nk → x ≡ y → w * base + k ≡ lighterTo cap (getD nw here 0 * base + getD nk here 0) x → Taken y here nw nk (set nw here w) (set nk here k)
+taken-set nw nk here w k x y h g e v =
+    record {
+      cell = rw (getD-set-same nw here w 0 h, getD-set-same nk here k 0 g) (v ∙ ap (lighterTo cap (getD nw here 0 * base + getD nk here 0)) e);
+      weights = λ c d. getD-set-other nw here c w 0 d;
+      keys = λ c d. getD-set-other nk here c k 0 d;
+    }
 
-  -- cell (t, v) of the other two arrays comes with the price p
-  pub wrote-same : (ow ok : List ℕ) (t v p x : ℕ) → q * 27 + u < length ws → q * 27 + u < length ks → x ≡ jointTo cap p (getD ow (t * 27 + v) 0 * base + getD ok (t * 27 + v) 0) → w * base + k ≡ lighterTo cap (getD ws (q * 27 + u) 0 * base + getD ks (q * 27 + u) 0) x → cells (set ws (q * 27 + u) w) (set ks (q * 27 + u) k) q u ≡ lighterTo cap (cells ws ks q u) (jointTo cap p (cells ow ok t v))
+module _ (nw nk lw lk : List ℕ) (q u x : ℕ) (t : Taken x (q * 27 + u) nw nk lw lk) where
+  pub taken-other : u < 27 → (s v : ℕ) → v < 27 → (s ≡ q → v ≡ u → ⊥) → cells lw lk s v ≡ cells nw nk s v
   unfolding cells
-  wrote-same ow ok t v p x h g ex ey = rw (getD-set-same ws (q * 27 + u) w 0 h, getD-set-same ks (q * 27 + u) k 0 g) (cut _ _ p x (w * base + k) ex ey)
+  taken-other hu s v hv d = rw (t .weights (s * 27 + v) (apart s q v u hv hu d), t .keys (s * 27 + v) (apart s q v u hv hu d))
+
+  -- what came is cell (s, v) of two arrays, with the price p
+  pub taken-same : (ow ok : List ℕ) (s v p : ℕ) → x ≡ jointTo cap p (getD ow (s * 27 + v) 0 * base + getD ok (s * 27 + v) 0) → cells lw lk q u ≡ lighterTo cap (cells nw nk q u) (jointTo cap p (cells ow ok s v))
+  unfolding cells
+  taken-same ow ok s v p e = cut _ _ p x _ e (t .cell)
 
 -- a cell whose weight is the mark is none, and brings nothing
 pub dead : (ws ks : List ℕ) (q u : ℕ) → getD ws (q * 27 + u) 0 ≡ mark → cells ws ks q u ≡ cap

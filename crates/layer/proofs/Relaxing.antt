@@ -5,7 +5,7 @@ use mathlib.Core.List.{List, [], _∷_, _++_}
 use Prim.Native.Nat.{ℕ, _+_, _*_, _≤_, _<_}
 use native.Mathlib.Omega.{arith}
 use native.Mathlib.Decide.{ℕ-discrete}
-use lib.ListN.{length, getD, set}
+use lib.ListN.{getD}
 use lib.Dec.{eqb}
 use borrow.Author.Tests.{eq-eqb, ne-eqb}
 use Rattle.weight.specs.Weight.{mark, lighterTo, jointTo}
@@ -18,26 +18,26 @@ use Rattle.table.specs.Table.{labelOf, rowAt, rowsFrom, RightTable}
 use Rattle.table.specs.Rows.{rows-more}
 use Rattle.togo.specs.Price.{base, cap}
 use Rattle.layer.specs.Layer.{Cells, cells, brings, Relaxed}
-use Rattle.layer.specs.Parts.{RowRelaxed, OneRelaxed}
-use Rattle.layer.proofs.Grid.{cell-low, dead, lighter-cap, wrote-other, wrote-same, sum-snoc}
+use Rattle.layer.specs.Parts.{Taken, RowRelaxed, OneRelaxed}
+use Rattle.layer.proofs.Grid.{cell-low, dead, lighter-cap, taken-other, taken-same, sum-snoc}
 
 pub row-none : (low from to price : ℕ) (old new : Cells) → RowRelaxed low from to price low old new new
 row-none low from to price old new = record { done = λ u l h. absurd (omega arith); kept = λ q u h d. refl }
 
 module _ (low from to price u : ℕ) (ow ok : List ℕ) (new : Cells) (mw mk : List ℕ) (r : RowRelaxed low from to price u (cells ow ok) new (cells mw mk)) (hu : u < 27) where
-  pub row-more : (x w k : ℕ) → from * 27 + u < length mw → from * 27 + u < length mk → x ≡ jointTo cap price (getD ow (to * 27 + u) 0 * base + getD ok (to * 27 + u) 0) → w * base + k ≡ lighterTo cap (getD mw (from * 27 + u) 0 * base + getD mk (from * 27 + u) 0) x → RowRelaxed low from to price (u + 1) (cells ow ok) new (cells (set mw (from * 27 + u) w) (set mk (from * 27 + u) k))
-  row-more x w k room room2 ex ey =
+  pub row-more : (lw lk : List ℕ) → Taken (jointTo cap price (getD ow (to * 27 + u) 0 * base + getD ok (to * 27 + u) 0)) (from * 27 + u) mw mk lw lk → RowRelaxed low from to price (u + 1) (cells ow ok) new (cells lw lk)
+  row-more lw lk t =
       record {
         done = λ v l h. at-v v l h (ℕ-discrete v u);
-        kept = λ q v h d. wrote-other mw mk from u w k hu q v h (λ e f. let g = d e in omega arith) ∙ r .kept q v h (λ e. let g = d e in omega arith);
+        kept = λ q v h d. taken-other mw mk lw lk from u _ t hu q v h (λ e f. let g = d e in omega arith) ∙ r .kept q v h (λ e. let g = d e in omega arith);
       }
     where
-      now-u : cells (set mw (from * 27 + u) w) (set mk (from * 27 + u) k) from u ≡ lighterTo cap (new from u) (jointTo cap price (cells ow ok to u))
-      now-u = wrote-same mw mk from u w k ow ok to u price x room room2 ex ey ∙ ap (λ (z : ℕ). lighterTo cap z (jointTo cap price (cells ow ok to u))) (r .kept from u hu (λ e. omega arith))
+      now-u : cells lw lk from u ≡ lighterTo cap (new from u) (jointTo cap price (cells ow ok to u))
+      now-u = taken-same mw mk lw lk from u _ t ow ok to u price refl ∙ ap (λ (z : ℕ). lighterTo cap z (jointTo cap price (cells ow ok to u))) (r .kept from u hu (λ e. omega arith))
 
-      at-v : (v : ℕ) → low ≤ v → v < u + 1 → Dec (v ≡ u) → cells (set mw (from * 27 + u) w) (set mk (from * 27 + u) k) from v ≡ lighterTo cap (new from v) (jointTo cap price (cells ow ok to v))
+      at-v : (v : ℕ) → low ≤ v → v < u + 1 → Dec (v ≡ u) → cells lw lk from v ≡ lighterTo cap (new from v) (jointTo cap price (cells ow ok to v))
       at-v v l h (yes e) = rw e now-u
-      at-v v l h (no d) = wrote-other mw mk from u w k hu from v (omega arith) (λ e f. d f) ∙ r .done v l (omega arith)
+      at-v v l h (no d) = taken-other mw mk lw lk from u _ t hu from v (omega arith) (λ e f. d f) ∙ r .done v l (omega arith)
 
   pub row-skip : getD ow (to * 27 + u) 0 ≡ mark → RowRelaxed low from to price (u + 1) (cells ow ok) new (cells mw mk)
   row-skip e = record { done = λ v l h. at-v v l h (ℕ-discrete v u); kept = λ q v h d. r .kept q v h (λ e. let g = d e in omega arith) }

@@ -1,5 +1,6 @@
 -- METHOD. What the inner functions of the byte step and of the closing have done to a layer. Definitions only.
 --
+-- Taken           the cell at `here` is the lighter of what it was and of x, and every other is as it was
 -- RowRelaxed      one row's byte, at the settings from low up to k
 -- OneRelaxed      one row's byte, at every setting from low on, if it reads that byte
 -- OneClosed       one row's marker, at setting u
@@ -16,8 +17,13 @@ use Rattle.weight.specs.Semiring.{sum}
 use Rattle.weight.specs.Tropical.{least}
 use Rattle.table.specs.declared.Row.{Row}
 use Rattle.table.specs.Table.{Automaton}
-use Rattle.togo.specs.Price.{cap}
+use Rattle.togo.specs.Price.{base, cap}
 use Rattle.layer.specs.Layer.{Cells, brings, carries, Right}
+
+pub record Taken (x here : ℕ) (nw nk lw lk : List ℕ) : Type 0 where
+  pub cell : getD lw here 0 * base + getD lk here 0 ≡ lighterTo cap (getD nw here 0 * base + getD nk here 0) x
+  pub weights : (c : ℕ) → (c ≡ here → ⊥) → getD lw c 0 ≡ getD nw c 0
+  pub keys : (c : ℕ) → (c ≡ here → ⊥) → getD lk c 0 ≡ getD nk c 0
 
 pub record RowRelaxed (low from to price k : ℕ) (old new last : Cells) : Type 0 where
   pub done : (u : ℕ) → low ≤ u → u < k → last from u ≡ lighterTo cap (new from u) (jointTo cap price (old to u))

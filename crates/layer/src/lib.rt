@@ -1,22 +1,24 @@
 // The cells of one position of a line (01, "The table"): for each state and setting the least price of a run from there to the
 // line's end. A sweep goes from the end to the start: a byte step, which tests each row once and then goes over the settings in
 // use, and a closing under the marker rows, from the highest setting down, since a marker always raises the setting.
-// A byte costs rows + (rows that read it + marker rows) × 3^K cells; memory is two layers, whatever the line.
+// A byte costs rows + (rows that read it + marker rows) × 3^K cells. The stack is about 46 KB, whatever the line: four layers, since
+// a step takes and gives them by value, and where the marker rows start.
 ghost use mathlib.Core.Path.{_≡_};
 ghost use mathlib.Core.Bool.{cond, _&&_};
 ghost use mathlib.Core.List.{map, []};
 ghost use Prim.Native.Nat.{_+_, _-_, _*_, _^_, _≤_, _<_};
 ghost use lib.Dec.{leb};
 ghost use lib.ListN.{length, getD, take};
+ghost use Rattle.weight.specs.Weight.{jointTo};
 ghost use Rattle.spans.specs.Spans.{digit};
 ghost use Rattle.marks.specs.Labels.{isByte, reads};
 ghost use Rattle.setting.specs.Setting.{begin, Moves};
 ghost use Rattle.table.specs.Table.{RightRow, RightTable, automatonOf, labelOf, rowAt, mostStates, mostVars, mostBytes};
 ghost use Rattle.togo.specs.ToGo.{marker};
-ghost use Rattle.togo.specs.Price.{base, allowed, answer};
+ghost use Rattle.togo.specs.Price.{cap, allowed, answer};
 ghost use Rattle.cell.specs.Value.{value};
-ghost use Rattle.layer.specs.Layer.{cells, shut, Tolls, Relaxed, Closed, MarkerAt, Markers, Right};
-ghost use Rattle.layer.specs.Parts.{RowRelaxed, OneRelaxed, OneClosed, ClosedAt, Ended, Stepped};
+ghost use Rattle.layer.specs.Layer.{cells, shut, Tolls, Relaxed, Closed, Markers, Right};
+ghost use Rattle.layer.specs.Parts.{Taken, RowRelaxed, OneRelaxed, OneClosed, ClosedAt, Ended, Stepped};
 use cell::Cell;
 use table::Row;
 
@@ -68,6 +70,20 @@ fn reads(r: Row, b: u32) -> bool
     b <= r.argument % 256
 }
 
+// The cell at `here` takes the lighter of what it has and of `far` with the price on top.
+fn take<'b>(price: Cell, far: Cell, here: usize, nw: &'b mut [u32], nk: &'b mut [u64])
+    requires { ⌜ (here < 864) × (864 ≤ length (now nw)) × (864 ≤ length (now nk)) ⌝ }
+    ensures { λ _. ⌜ Taken (jointTo cap (value price) (value far)) here (now (nw .entry)) (now (nk .entry)) (now (nw .exit)) (now (nk .exit)) ⌝ }
+{
+    let near = Cell {
+        weight: nw[here],
+        key: nk[here],
+    };
+    let c = near.lighter(price.sum(far));
+    nw[here] = c.weight;
+    nk[here] = c.key;
+}
+
 // State `from` takes what `to` has, at each setting in use. Most cells of a real card are empty, and are passed over.
 fn relax_row<'a, 'b>(
     from: usize,
@@ -88,18 +104,11 @@ fn relax_row<'a, 'b>(
         let there = to * 27 + u;
         let weight = ow[there];
         if weight != 4294967295 {
-            let here = from * 27 + u;
             let far = Cell {
                 weight,
                 key: ok[there],
             };
-            let near = Cell {
-                weight: nw[here],
-                key: nk[here],
-            };
-            let c = near.lighter(price.sum(far));
-            nw[here] = c.weight;
-            nk[here] = c.key;
+            take(price, far, from * 27 + u, nw, nk);
         }
         u += 1;
     }
@@ -257,22 +266,15 @@ fn close_one<'b>(
     if weight == 4294967295 {
         return;
     }
-    let here = wide(r.from) * 27 + u;
     let far = Cell {
         weight,
         key: nk[there],
-    };
-    let near = Cell {
-        weight: nw[here],
-        key: nk[here],
     };
     let price = Cell {
         weight: r.weight,
         key: toll,
     };
-    let c = near.lighter(price.sum(far));
-    nw[here] = c.weight;
-    nk[here] = c.key;
+    take(price, far, wide(r.from) * 27 + u, nw, nk);
 }
 
 // The marker rows at one setting.

@@ -1,10 +1,9 @@
 -- `close`: one setting less at each turn, down to the lowest in use.
 use mathlib.Core.Path.{_≡_}
 use mathlib.Core.List.{map}
-use Prim.Native.Nat.{_≤_, _<_, _-_}
+use Prim.Native.Nat.{_≤_}
 use native.Mathlib.Omega.{arith}
-use lib.ListN.{length, getD}
-use Rattle.setting.specs.Setting.{begin}
+use lib.ListN.{length}
 use Rattle.setting.specs.Settled.{begin-low}
 use Rattle.table.specs.Table.{rowAt, automatonOf}
 use Rattle.layer.specs.Layer.{cells, Closed}

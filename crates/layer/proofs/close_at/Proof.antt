@@ -1,9 +1,9 @@
 -- `close_at`: one marker row more at each turn.
-use mathlib.Core.Path.{_≡_, _∙_}
+use mathlib.Core.Path.{_≡_}
 use mathlib.Core.List.{map}
 use Prim.Native.Nat.{_≤_, _-_}
 use native.Mathlib.Omega.{arith}
-use lib.ListN.{length, getD, take}
+use lib.ListN.{length, take}
 use lib.Seq.{take-length}
 use Rattle.table.specs.Table.{rowAt}
 use Rattle.layer.specs.Layer.{cells, MarkerAt}

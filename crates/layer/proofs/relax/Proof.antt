@@ -1,9 +1,8 @@
 -- `relax`: one row more at each turn.
 use mathlib.Core.Path.{_≡_}
-use Prim.Native.Nat.{_≤_, _<_, _-_}
+use Prim.Native.Nat.{_≤_, _-_}
 use native.Mathlib.Omega.{arith}
-use lib.ListN.{length, getD}
-use Rattle.setting.specs.Setting.{begin}
+use lib.ListN.{length}
 use Rattle.setting.specs.Settled.{begin-low}
 use Rattle.table.specs.Table.{rowsFrom, automatonOf}
 use Rattle.layer.specs.Layer.{cells, Relaxed}

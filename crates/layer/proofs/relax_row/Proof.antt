@@ -3,7 +3,7 @@ use mathlib.Core.Path.{_≡_, ap, _∙_}
 use mathlib.Core.Logic.{⊎-elim}
 use Prim.Native.Nat.{_≤_, _-_}
 use native.Mathlib.Omega.{arith}
-use lib.ListN.{length, length-set}
+use lib.ListN.{length}
 use Rattle.cell.specs.Value.{value}
 use Rattle.layer.specs.Layer.{cells}
 use Rattle.layer.specs.Parts.{RowRelaxed}
@@ -33,47 +33,20 @@ mul-weight c = search needs
 shared-slice-read-weight : tie.Need-shared-slice-read-weight Inv-loop μ-loop
 shared-slice-read-weight c = search needs
 
-mul-here : tie.Need-mul-here Inv-loop μ-loop
-mul-here c = search needs
+mul-t17 : tie.Need-mul-t17 Inv-loop μ-loop
+mul-t17 c = search needs
 
-add-here : tie.Need-add-here Inv-loop μ-loop
-add-here c = search needs
+shared-slice-read-t19 : tie.Need-shared-slice-read-t19 Inv-loop μ-loop
+shared-slice-read-t19 c = search needs
 
-mul-t20 : tie.Need-mul-t20 Inv-loop μ-loop
-mul-t20 c = search needs
+mul-take : tie.Need-mul-take Inv-loop μ-loop
+mul-take c = search needs
 
-shared-slice-read-t22 : tie.Need-shared-slice-read-t22 Inv-loop μ-loop
-shared-slice-read-t22 c = search needs
+add-take : tie.Need-add-take Inv-loop μ-loop
+add-take c = search needs
 
-mul-t20-2 : tie.Need-mul-t20-2 Inv-loop μ-loop
-mul-t20-2 c = search needs
-
-slice-read-t24 : tie.Need-slice-read-t24 Inv-loop μ-loop
-slice-read-t24 c = search needs
-
-mul-t25 : tie.Need-mul-t25 Inv-loop μ-loop
-mul-t25 c = search needs
-
-slice-read-t22 : tie.Need-slice-read-t22 Inv-loop μ-loop
-slice-read-t22 c = search needs
-
-sum-requires : tie.Need-sum-requires Inv-loop μ-loop
-sum-requires c κs = search needs
-
-lighter-requires : tie.Need-lighter-requires Inv-loop μ-loop
-lighter-requires c κs = search needs
-
-mul-nw : tie.Need-mul-nw Inv-loop μ-loop
-mul-nw c = search needs
-
-slice-write-nw : tie.Need-slice-write-nw Inv-loop μ-loop
-slice-write-nw c = search needs
-
-mul-nk : tie.Need-mul-nk Inv-loop μ-loop
-mul-nk c = search needs
-
-slice-write-nk : tie.Need-slice-write-nk Inv-loop μ-loop
-slice-write-nk c = search needs
+take-requires : tie.Need-take-requires Inv-loop μ-loop
+take-requires c κs = search needs
 
 add-u : tie.Need-add-u Inv-loop μ-loop
 add-u c = search needs
@@ -84,7 +57,7 @@ loop-less c = search needs
 loop-again : tie.Need-loop-again Inv-loop μ-loop
 loop-again c = let inv = c .before .before .before .loop .inv in
     ⊎-elim
-    (λ w. (omega arith, ap length (w .6) ∙ (simp length-set) ∙ inv .1, ap length (w .7) ∙ (simp length-set) ∙ inv .2, rw (w .6, w .7) (row-more _ _ _ _ _ _ _ _ _ _ (inv .3) (omega arith) _ _ _ (omega arith) (omega arith) (w .4 .ensures) (w .5 .ensures))))
+    (λ w. (omega arith, search needs, search needs, rw (w .9, w .10) (row-more _ _ _ _ _ _ _ _ _ _ (inv .3) (omega arith) _ _ (w .4 .ensures))))
     (λ w. (omega arith, ap length (w .1) ∙ inv .1, ap length (w .2) ∙ inv .2, rw (w .1, w .2) (row-skip _ _ _ _ _ _ _ _ _ _ (inv .3) (omega arith) (w .0 .left))))
     (c .if1 .came)
 
@@ -108,20 +81,11 @@ relax-row-spec =
     add-there
     mul-weight
     shared-slice-read-weight
-    mul-here
-    add-here
-    mul-t20
-    shared-slice-read-t22
-    mul-t20-2
-    slice-read-t24
-    mul-t25
-    slice-read-t22
-    sum-requires
-    lighter-requires
-    mul-nw
-    slice-write-nw
-    mul-nk
-    slice-write-nk
+    mul-t17
+    shared-slice-read-t19
+    mul-take
+    add-take
+    take-requires
     add-u
     loop-less
     loop-again
