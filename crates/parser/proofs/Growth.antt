@@ -1,5 +1,5 @@
 -- What grows with each part of a text: its weight for no step, its arcs, its labels.
-use mathlib.Core.Path.{_≡_, refl, subst, sym, ap, ap₂, _∙_}
+use mathlib.Core.Path.{_≡_, refl, sym, ap, ap₂, _∙_}
 use mathlib.Core.List.{List, [], _∷_, _++_}
 use Prim.Native.Nat.{ℕ, zero, suc, _+_, _*_, _-_, _≤_, _<_}
 use native.Mathlib.Omega.{arith}
@@ -13,7 +13,7 @@ use Rattle.pattern.specs.Derivations.{labelsOf, nthLabel}
 use Rattle.arcs.specs.Tree.{size, tolls}
 use Rattle.arcs.specs.Core.{core, core-size}
 use Rattle.arcs.specs.Arcs.{arc}
-use Rattle.grid.specs.Cells.{Leafed, Linked, Joined}
+use Rattle.grid.specs.Cells.{Linked, Joined}
 use Rattle.grid.specs.Grow.{Fresh, Built}
 use Rattle.grid.specs.Patterns.{grown-on, grown-reads, grown-nothing, grown-alt, grown-cat, grown-star, grown-charge, grown-capture}
 use Rattle.parser.specs.Grown.{Labelled, Grown, Turned, Stepped, Entered, Shut, Left}

@@ -1,18 +1,18 @@
 -- The postfixes: a weight mark, a star, and what stands after them.
 use mathlib.Core.Path.{_≡_, refl, subst, sym, ap, _∙_}
-use mathlib.Core.Bool.{Bool, true, false, cond}
+use mathlib.Core.Bool.{true, false}
 use mathlib.Core.List.{List, [], _∷_, _++_}
-use Prim.Native.Nat.{ℕ, zero, suc, _+_, _-_, _*_, _≤_, _<_}
+use Prim.Native.Nat.{ℕ, _+_, _-_, _*_, _≤_, _<_}
 use native.Mathlib.Omega.{arith}
 use lib.ListN.{length, getD}
 use lib.Seq.{slice, slice-empty}
-use lib.Dec.{eqb, leb}
+use lib.Dec.{eqb}
 use Rattle.pattern.specs.Bytes.{Digit}
 use Rattle.pattern.specs.Grammar.{Pat, star, charge, stepsOf, nestingOf, Posts, none, starred, marked}
 use Rattle.pattern.specs.Machine.{Todo, St, after, ch1, ch2, ch3, dead, digit, step, run, done}
 use Rattle.pattern.specs.Found.{PostsDone, PostsStuck, Marked}
 use Rattle.pattern.specs.Laws.{run-append}
-use Rattle.pattern.specs.Joins.{slice-join, slice-one, run-join, join-rest}
+use Rattle.pattern.specs.Joins.{slice-join, run-join, join-rest}
 use Rattle.parser.specs.declared.Piece.the-variants.{Here}
 use Rattle.parser.specs.declared.Part.{Part}
 use Rattle.parser.specs.Parts.{level}

@@ -1,19 +1,18 @@
 -- The answers by cases, and how the parts that are found join: what stands, what has grown.
 use mathlib.Core.Path.{_≡_, refl, subst, sym, ap, ap₂, _∙_}
-use mathlib.Core.Bool.{Bool, true, false}
-use mathlib.Core.List.{List, [], _∷_}
-use Prim.Native.Nat.{ℕ, zero, suc, _+_, _*_, _≤_, _<_, max}
+use mathlib.Core.Bool.{false}
+use mathlib.Core.List.{List}
+use Prim.Native.Nat.{ℕ, _+_, _*_, _≤_, _<_, max}
 use native.Mathlib.Omega.{arith}
 use lib.ListN.{length, getD}
 use lib.Dec.{eqb}
-use Rattle.weight.specs.Weight.{mark, lighter, joint}
+use Rattle.weight.specs.Weight.{lighter, joint}
 use Rattle.pattern.specs.Grammar.{Pat, reads, nothing, alt, cat, charge, star, stepsOf, nestingOf, Pattern, Term, Factor, Atom}
-use Rattle.pattern.specs.Derivations.{labelsOf}
 use Rattle.pattern.specs.Machine.{Bracket, closing, starts}
 use Rattle.pattern.specs.Machine
-use Rattle.pattern.specs.Found.{Done, Stuck, Opened, PostsDone, PostsStuck, Marked, AtomStop, FactorStop, TermStop, PatternStop}
+use Rattle.pattern.specs.Found.{Done, Stuck, Opened, PostsStuck, Marked, AtomStop, FactorStop, TermStop, PatternStop}
 use Rattle.pattern.specs.Joins.{factor-good, factor-bad-2, term-good, term-good-2, pattern-good, pattern-good-2, atom-good, accepted}
-use Rattle.arcs.specs.Core.{core, few-tolls}
+use Rattle.arcs.specs.Core.{few-tolls}
 use Rattle.grid.specs.Cells.{Cleared, Linked, Joined}
 use Rattle.grid.specs.Grow.{fresh-cleared}
 use Rattle.grid.specs.Patterns.{grown-whole}
@@ -22,7 +21,7 @@ use Rattle.parser.specs.declared.Piece.{Piece}
 use Rattle.parser.specs.declared.Piece.the-variants.{Here, Fails}
 use Rattle.parser.specs.declared.Head.{Head}
 use Rattle.parser.specs.declared.Head.the-variants.{Byte, Empty, Open, Wrong}
-use Rattle.parser.specs.Grown.{Labelled, Grown, Turned, Stepped, Entered, Left}
+use Rattle.parser.specs.Grown.{Stepped, Entered, Left}
 use Rattle.parser.specs.Result.{Wraps, Opens, byte, blank, opens, wrong, Marks, good, bad, Stands, Parses, found, stuck, Posts, Posted, posts, halts, Whole, Read}
 use Rattle.parser.specs.Parts.{level, putOn, beside, between}
 use Rattle.parser.proofs.Leaves.{is-stands}

@@ -2,14 +2,14 @@
 use mathlib.Core.Path.{_≡_, sym, ap, _∙_}
 use mathlib.Core.List.{List}
 use Prim.Native.Nat.{ℕ, _+_, _*_, _<_}
-use lib.ListN.{length, getD}
+use lib.ListN.{getD}
 use Rattle.pattern.specs.Grammar.{Pat, stepsOf, nestingOf}
 use Rattle.pattern.specs.Laws.{tree-one}
 use Rattle.pattern.specs.One.{place-one}
 use Rattle.arcs.specs.Exact.{arcOf}
 use Rattle.grid.specs.Grow.{at}
 use Rattle.parser.specs.declared.Parsed.{Parsed}
-use Rattle.parser.specs.declared.Parsed.the-variants.{Good, Bad}
+use Rattle.parser.specs.declared.Parsed.the-variants.{Bad}
 use Rattle.parser.specs.Result.{Answers, is-text, no-text, Whole}
 
 pub answer-one : {k : ℕ} {s c d l m : List ℕ} {r t : Parsed} → Answers k s c l r → Answers k s d m t → r ≡ t

@@ -1,6 +1,6 @@
 // The card's parser (01, "The pattern on the card"; number 3 of "Numbers, places and order of checks"). It builds the arcs as it goes:
-// pattern, term, factor and atom call one another, the bytes left falling. Each byte is looked at twice at most, and each join of two
-// parts is one pass over the 1,024 cells.
+// pattern, term, factor and atom call one another, the bytes left falling. A byte is looked at a few times, and each join of two parts
+// passes twice over the 1,024 cells. Stack: 656 bytes for each open bracket, 416 for each factor of a term; 168 KB for 255 `(`.
 use pattern::Class;
 ghost use mathlib.Core.Path.{_≡_};
 ghost use Prim.Native.Nat.{_+_, _≤_, _<_, max};

@@ -1,15 +1,12 @@
 -- Examples by computing the machine.
-use mathlib.Core.Path.{_≡_, refl, sym, _∙_}
-use mathlib.Core.Bool.{true, false}
-use mathlib.Core.List.{List, [], _∷_, _++_}
-use Prim.Native.Nat.{ℕ, _<_}
+use mathlib.Core.Path.{_≡_, refl}
+use mathlib.Core.List.{[], _∷_}
 use native.Mathlib.Omega.{arith}
-use lib.ListN.{length}
 use Rattle.pattern.specs.Bytes.{classOf}
-use Rattle.pattern.specs.Grammar.{Pat, reads, nothing, alt, cat, star, charge, capture, grouped, Pattern, lone, last, with, plain, none}
-use Rattle.pattern.specs.Places.{Refused, Begins}
+use Rattle.pattern.specs.Grammar.{Pat, reads, cat, star, charge, capture, grouped, Pattern, lone, last, with, plain, none}
+use Rattle.pattern.specs.Places.{Refused}
 use Rattle.pattern.specs.Laws.{makes-tree}
-use Rattle.pattern.specs.Joins.{refuses, done-pattern, contra}
+use Rattle.pattern.specs.Joins.{refuses}
 
 -- (a#002)*#005
 ex1 : (a : Pat) → Pattern 0 (40 ∷ 97 ∷ 35 ∷ 48 ∷ 48 ∷ 50 ∷ 41 ∷ 42 ∷ 35 ∷ 48 ∷ 48 ∷ 53 ∷ []) a → charge 5 (star (grouped (charge 2 (reads 97 97)))) ≡ a

@@ -4,8 +4,7 @@
 -- shown c           the byte c is one of 0x20 to 0x7E; Shown c says so as a statement
 -- classOf c         one of the twelve is reserved, another shown byte is plain, and the others are illegal
 -- Digit c           the byte c is a decimal digit, 48 to 57
-use mathlib.Core.Path.{_≡_}
-use mathlib.Core.Bool.{Bool, true, false, cond, _&&_, _||_}
+use mathlib.Core.Bool.{Bool, false, cond, _&&_, _||_}
 use mathlib.Core.List.{List, [], _∷_}
 use Prim.Native.Nat.{ℕ, _≤_}
 use lib.Dec.{leb, eqb}

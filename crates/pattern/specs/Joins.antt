@@ -1,8 +1,8 @@
 -- How the parts of a text that are found join: what is found of each gives what is found of both, and refusal 3 and its place.
 use mathlib.Core.Path.{_≡_, refl, subst, sym, ap, _∙_}
-use mathlib.Core.Bool.{Bool, true, false, cond, _&&_, _||_}
+use mathlib.Core.Bool.{Bool, true, false, _||_}
 use mathlib.Core.List.{List, [], _∷_, _++_, append-assoc, append-nil}
-use Prim.Native.Nat.{ℕ, zero, suc, _+_, _-_, _≤_, _<_, max}
+use Prim.Native.Nat.{ℕ, zero, suc, _+_, _-_, _≤_, _<_}
 use native.Mathlib.Nat.{le-of-suc-le-suc, not-suc-le-zero}
 use native.Mathlib.Numerals.{add-one}
 use native.Mathlib.Omega.{arith}
@@ -10,16 +10,16 @@ use lib.ListN.{length, getD, take, drop, take-append-drop}
 use mathlib.Core.Logic.{⊎-elim}
 use native.Mathlib.Nat.{eq-or-lt-of-le}
 use lib.Seq.{take-all, take-length, slice, slice-cons, slice-empty, take-take}
-use lib.Dec.{eqb, leb}
-use borrow.Author.Tests.{ne-eqb, eq-eqb, le-leb, lt-leb}
+use lib.Dec.{eqb}
+use borrow.Author.Tests.{ne-eqb}
 use Rattle.pattern.specs.Bytes.{classOf}
 use Rattle.pattern.specs.declared.Class.{Class}
 use Rattle.pattern.specs.declared.Class.the-variants.{Plain, Reserved, Illegal}
-use Rattle.pattern.specs.Grammar.{Pat, reads, nothing, alt, cat, star, charge, capture, stepsOf, nestingOf, Posts, none, starred, marked, Pattern, lone, either, Term, last, thence, Factor, with, Atom, plain, escaped, any, range, empty, group, named}
-use Rattle.pattern.specs.Machine.{Bracket, round, curly, closing, Frame, Todo, St, wants, after, dead, opened, more, other, special, starting, startsBy, starts, begin, shut, follow, step, run, done}
+use Rattle.pattern.specs.Grammar.{Pat, alt, cat, stepsOf, nestingOf, none, Pattern, lone, either, Term, last, thence, Factor, with, Atom}
+use Rattle.pattern.specs.Machine.{closing, Frame, Todo, St, wants, after, dead, opened, more, other, starting, startsBy, starts, begin, follow, run, done}
 use Rattle.pattern.specs.Places.{Begins, Refused}
 use Rattle.pattern.specs.Found.{Done, Stuck, Opened, PostsDone, PostsStuck, AtomStop, FactorStop, TermStop, PatternStop}
-use Rattle.pattern.specs.Laws.{run-append, run-dead, after-starts, Headed, run-headed, posts-run, atom-run, factor-run, term-run, pattern-run, fresh}
+use Rattle.pattern.specs.Laws.{run-append, run-dead, run-headed, atom-run, factor-run, term-run, pattern-run, fresh}
 
 pub slice-join : (f m t : ℕ) (l : List ℕ) → f ≤ m → m ≤ t → slice f m l ++ slice m t l ≡ slice f t l
 slice-join zero m t l p q = ap (λ (x : List ℕ). x ++ drop m (take t l)) (sym (take-take m t l q)) ∙ take-append-drop m (take t l)

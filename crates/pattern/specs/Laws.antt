@@ -1,16 +1,15 @@
 -- What the machine does on a text of the grammar: it builds the text's tree, so one text has one tree (tree-one).
-use mathlib.Core.Path.{_≡_, refl, subst, sym, ap, _∙_}
-use mathlib.Core.Bool.{Bool, true, false, cond, _&&_, _||_}
+use mathlib.Core.Path.{_≡_, refl, sym, ap, _∙_}
+use mathlib.Core.Bool.{true, false, cond}
 use mathlib.Core.List.{List, [], _∷_, _++_}
-use Prim.Native.Nat.{ℕ, zero, suc, _+_, _-_, _≤_, _<_}
+use Prim.Native.Nat.{ℕ, _+_, _-_, _≤_}
 use native.Mathlib.Omega.{arith}
-use lib.Dec.{T, eqb, leb}
-use borrow.Author.Tests.{le-leb, ne-eqb, eq-eqb, eqb-true}
-use Rattle.pattern.specs.declared.Class.{Class}
-use Rattle.pattern.specs.declared.Class.the-variants.{Plain, Reserved, Illegal}
+use lib.Dec.{eqb}
+use borrow.Author.Tests.{le-leb, ne-eqb}
+use Rattle.pattern.specs.declared.Class.the-variants.{Plain}
 use Rattle.pattern.specs.Bytes.{classOf, Shown, Digit, shown}
-use Rattle.pattern.specs.Grammar.{Pat, reads, nothing, alt, cat, star, charge, capture, grouped, Posts, none, starred, marked, Pattern, lone, either, Term, last, thence, Factor, with, Atom, plain, escaped, any, range, empty, group, named}
-use Rattle.pattern.specs.Machine.{Bracket, round, curly, closing, Frame, Todo, St, wants, after, esc, br1, br2, br3, br4, va1, va2, ch1, ch2, ch3, dead, opened, more, other, special, starting, startsBy, starts, begin, shut, follow, digit, step, run}
+use Rattle.pattern.specs.Grammar.{Pat, reads, nothing, alt, cat, capture, grouped, Posts, none, starred, marked, Pattern, lone, either, Term, last, thence, Factor, with, Atom, plain, escaped, any, range, empty, group, named}
+use Rattle.pattern.specs.Machine.{Bracket, round, curly, closing, Frame, Todo, St, wants, after, esc, br1, br2, br3, br4, va1, va2, ch1, ch2, ch3, dead, opened, more, starts, begin, shut, follow, digit, step, run}
 
 pub run-append : (k : ℕ) (s : St) (u v : List ℕ) → run k s (u ++ v) ≡ run k (run k s u) v
 run-append k s [] v = refl

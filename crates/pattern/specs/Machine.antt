@@ -5,10 +5,9 @@
 -- starts k c        an atom begins with the byte c; begin is the machine's step there
 -- step, run         the machine on one byte, and on a text
 -- done s            a whole pattern stands, and no bracket is open
-use mathlib.Core.Path.{_≡_}
 use mathlib.Core.Bool.{Bool, true, false, cond, _&&_, _||_}
-use mathlib.Core.List.{List, [], _∷_, _++_}
-use Prim.Native.Nat.{ℕ, _+_, _*_, _-_, _≤_}
+use mathlib.Core.List.{List, [], _∷_}
+use Prim.Native.Nat.{ℕ, _+_, _*_, _-_}
 use lib.Dec.{leb, eqb}
 use Rattle.pattern.specs.declared.Class.{Class}
 use Rattle.pattern.specs.declared.Class.the-variants.{Plain, Reserved, Illegal}

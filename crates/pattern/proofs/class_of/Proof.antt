@@ -1,7 +1,6 @@
 -- `pattern::class_of` meets its contract: each interval of the match is tested at each of its bytes.
-use mathlib.Core.Path.{_≡_, refl, subst, sym, ap}
+use mathlib.Core.Path.{sym, ap}
 use mathlib.Core.Logic.{inl, inr, ⊎-elim}
-use Prim.Native.Nat.{ℕ}
 use native.Mathlib.Omega.{arith}
 use Rattle.pattern.specs.declared.Class.the-variants.{Plain, Reserved, Illegal}
 use Rattle.pattern.specs.Bytes.{classOf}
