@@ -17,7 +17,7 @@ extern "C" {
 }
 
 const MARK: u32 = u32::MAX;
-const ROUNDS: usize = 7;
+const ROUNDS: usize = 15;
 const BYTES_A_ROUND: usize = 1 << 14;
 
 // ---- what is timed
@@ -43,14 +43,25 @@ fn check(table: &[u32], line: &[u8]) {
     assert_eq!(reader::best(table, line), expected);
 }
 
-/// Nanoseconds a byte of the best of some rounds.
-fn time(calls: usize, bytes: usize, mut call: impl FnMut()) -> f64 {
-    let round = |call: &mut dyn FnMut()| {
-        let start = Instant::now();
-        (0..calls).for_each(|_| call());
-        start.elapsed().as_nanos() as f64 / (calls * bytes) as f64
-    };
-    (0..ROUNDS).map(|_| round(&mut call)).fold(f64::INFINITY, f64::min)
+type Pass<'a> = Box<dyn Fn(&[u8]) -> Option<u32> + 'a>;
+
+/// Nanoseconds a byte of each pass, the best of some rounds; the passes take turns, so that
+/// a busy moment of the machine does not hit one alone.
+fn time(calls: usize, lines: &[Vec<u8>], passes: &[Pass]) -> Vec<f64> {
+    let bytes: usize = lines.iter().map(Vec::len).sum();
+    let mut best = vec![f64::INFINITY; passes.len()];
+    for _ in 0..ROUNDS {
+        for (pass, best) in passes.iter().zip(&mut best) {
+            let start = Instant::now();
+            for _ in 0..calls {
+                for line in lines {
+                    std::hint::black_box(pass(line));
+                }
+            }
+            *best = best.min(start.elapsed().as_nanos() as f64 / (calls * bytes) as f64);
+        }
+    }
+    best
 }
 
 fn measure(title: &str, table: &[u32], lines: &[Vec<u8>]) {
@@ -58,18 +69,16 @@ fn measure(title: &str, table: &[u32], lines: &[Vec<u8>]) {
     let bytes: usize = lines.iter().map(Vec::len).sum();
     // large tables take microseconds a byte, so fewer passes do
     let calls = (BYTES_A_ROUND / bytes / (1 + table[2] as usize / 100)).max(1);
-    let all = |read: &mut dyn FnMut(&[u8]) -> Option<u32>| {
-        for line in lines {
-            std::hint::black_box(read(line));
-        }
-    };
-    let in_rust = time(calls, bytes, || all(&mut |line| rust(table, line)));
-    print!("{title:<44} {in_rust:>10.0}");
+    #[allow(unused_mut)]
+    let mut passes: Vec<Pass> = vec![Box::new(|line| rust(table, line))];
     #[cfg(rattle)]
-    {
-        let words: Vec<u8> = table.iter().flat_map(|w| w.to_le_bytes()).collect();
-        let in_rattle = time(calls, bytes, || all(&mut |line| rattle(&words, line)));
-        let same = lines.iter().all(|line| rattle(&words, line) == rust(table, line));
+    let words: Vec<u8> = table.iter().flat_map(|w| w.to_le_bytes()).collect();
+    #[cfg(rattle)]
+    passes.push(Box::new(move |line| rattle(&words, line)));
+    let best = time(calls, lines, &passes);
+    print!("{title:<44} {:>10.0}", best[0]);
+    if let [in_rust, in_rattle] = best[..] {
+        let same = lines.iter().all(|line| passes[0](line) == passes[1](line));
         print!(" {in_rattle:>10.0} {:>6.2} {}", in_rattle / in_rust, if same { "" } else { "ANSWERS DIFFER" });
     }
     println!();

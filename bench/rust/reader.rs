@@ -1,7 +1,7 @@
 // The reader's pass in ordinary safe Rust, to be timed beside it. The same cells and the
 // same order of work: from the line's end to its start, a byte step over all rows, then a
-// closing under the marker rows from the highest setting down; a layer by value each byte.
-// A byte costs rows + (rows that read it + marker rows) x 3^K cells.
+// closing under the marker rows from the highest setting down; empty cells are passed over;
+// a layer by value each byte. A byte costs rows + (rows that read it + marker rows) x 3^K cells.
 
 const STATES: usize = 32;
 const SETTINGS: usize = 27;
@@ -128,21 +128,28 @@ impl Sweep<'_> {
             if r.kind == 0 && r.argument / 256 <= byte && byte <= r.argument % 256 {
                 let price = Cell { weight: r.weight, key: 0 };
                 for u in self.low..SETTINGS {
-                    new.lighten(r.from, u, price.sum(old.cell(r.to, u)));
+                    let far = old.cell(r.to, u);
+                    if far.weight != MARK {
+                        new.lighten(r.from, u, price.sum(far));
+                    }
                 }
             }
         }
     }
 
     fn close(&self, position: usize, layer: &mut Layer) {
+        let tolls = [0, 1, 2, 3, 4, 5].map(|marker| position as u64 * BASE.pow(5 - marker));
         for u in (self.low..SETTINGS).rev() {
             for r in &self.markers {
                 let marker = (2 * r.argument + r.kind - 3) as usize;
                 let d = self.moves[u][marker];
-                if d < SETTINGS {
-                    let key = position as u64 * BASE.pow(5 - marker as u32);
-                    let price = Cell { weight: r.weight, key };
-                    layer.lighten(r.from, u, price.sum(layer.cell(r.to, d)));
+                if d == SETTINGS {
+                    continue;
+                }
+                let far = layer.cell(r.to, d);
+                if far.weight != MARK {
+                    let price = Cell { weight: r.weight, key: tolls[marker] };
+                    layer.lighten(r.from, u, price.sum(far));
                 }
             }
         }
