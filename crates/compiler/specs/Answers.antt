@@ -3,7 +3,7 @@
 --
 -- Printed                 what 01 prints of an answer: number, place, words written. A refusal writes no word
 -- compiled c              what is printed of an answer
--- Fails K text room n p   number n could be given, with place p: 01's table of numbers, line by line
+-- TextFails, Fails        number n could be given, with place p: 01's table of numbers, line by line
 -- Compiles K text room exit a   a is the answer to compiling the pattern text with K variables into a lent room, and exit is
 --                         what the room holds then: the lowest number that could be given and the room as before, or no number
 --                         and the exact table of the text's tree, with the words after it as before
@@ -44,13 +44,17 @@ abbrev pub compiled : Compiled → Printed
 compiled (Written n) = written n
 compiled (Refused n p) = refusal n p
 
--- numbers 1 to 6: when each could be given, and its place
+-- numbers 1 to 5: when each could be given of a pattern text, and its place
+pub data TextFails (K : ℕ) (text : List ℕ) : ℕ → ℕ → Type 0 where
+  vars : mostVars < K → TextFails K text 1 0
+  long : mostText < length text → TextFails K text 2 0
+  grammar : {p : ℕ} → NotInGrammar K text p → TextFails K text 3 p
+  nesting : {a : Pat} → Pattern K text a → mostNesting < nestingOf a → TextFails K text 4 0
+  steps : {a : Pat} → Pattern K text a → mostSteps < stepsOf a → TextFails K text 5 0
+
+-- and number 6 of the room
 pub data Fails (K : ℕ) (text room : List ℕ) : ℕ → ℕ → Type 0 where
-  vars : mostVars < K → Fails K text room 1 0
-  long : mostText < length text → Fails K text room 2 0
-  grammar : {p : ℕ} → NotInGrammar K text p → Fails K text room 3 p
-  nesting : {a : Pat} → Pattern K text a → mostNesting < nestingOf a → Fails K text room 4 0
-  steps : {a : Pat} → Pattern K text a → mostSteps < stepsOf a → Fails K text room 5 0
+  by-text : {n p : ℕ} → TextFails K text n p → Fails K text room n p
   small : {a : Pat} {ws : List ℕ} → Pattern K text a → TableOf K a ws → length room < length ws → Fails K text room 6 (length ws)
 
 -- the lowest number is given, and the room stays as it was; or none, and the table is written

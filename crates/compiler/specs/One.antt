@@ -11,31 +11,39 @@ use lib.ListN.{length, drop}
 use Rattle.pattern.specs.Grammar.{Pat, Pattern, stepsOf, nestingOf}
 use Rattle.pattern.specs.Places.{Refused as NotInGrammar}
 use Rattle.pattern.specs.Laws.{tree-one}
+use Rattle.pattern.specs.One.{place-one}
 use Rattle.layout.specs.Layout.{TableOf}
 use Rattle.layout.specs.Exact.{table-one}
 use Rattle.card.specs.Form.{LineOne, LineTwo, IsCard}
 use Rattle.card.specs.One.{card-one, line-one-one}
-use Rattle.compiler.specs.Answers.{Printed, written, refusal, Fails, vars, long, grammar, nesting, steps, small, Compiles, refused, table, CompilesCard, wrong-one, wrong-two, right}
-
--- the place of number 3 is one place
-pub place-one : (K : ℕ) (text : List ℕ) (p q : ℕ) → NotInGrammar K text p → NotInGrammar K text q → p ≡ q
-place-one K text p q a b = go (decLt p q) (decLt q p)
-  where
-    go : Dec (p < q) → Dec (q < p) → p ≡ q
-    go (yes h) k = absurd (a .largest q h (b .within) (b .begins))
-    go (no h) (yes k) = absurd (b .largest p k (a .within) (a .begins))
-    go (no h) (no k) = omega arith
+use Rattle.compiler.specs.Answers.{Printed, written, refusal, TextFails, vars, long, grammar, nesting, steps, Fails, by-text, small, Compiles, refused, table, CompilesCard, wrong-one, wrong-two, right}
 
 -- the tables of two trees of one text are one
 tables-one : {K : ℕ} {text ws vs : List ℕ} {a b : Pat} → Pattern K text a → TableOf K a ws → Pattern K text b → TableOf K b vs → ws ≡ vs
 tables-one {K} {ws = ws} p x q y = table-one (subst (λ (t : Pat). TableOf K t ws) (tree-one p q) x) y
 
+pub text-fails-one : {K : ℕ} {text : List ℕ} {n p q : ℕ} → TextFails K text n p → TextFails K text n q → p ≡ q
+text-fails-one (vars h) (vars k) = refl
+text-fails-one (long h) (long k) = refl
+text-fails-one (grammar h) (grammar k) = place-one h k
+text-fails-one (nesting h i) (nesting k j) = refl
+text-fails-one (steps h i) (steps k j) = refl
+
+pub one-to-five : {K : ℕ} {text : List ℕ} {n p : ℕ} → TextFails K text n p → (1 ≤ n) × (n ≤ 5)
+one-to-five (vars h) = (omega arith, omega arith)
+one-to-five (long h) = (omega arith, omega arith)
+one-to-five (grammar h) = (omega arith, omega arith)
+one-to-five (nesting p h) = (omega arith, omega arith)
+one-to-five (steps p h) = (omega arith, omega arith)
+
+pub one-to-six : {K : ℕ} {text room : List ℕ} {n p : ℕ} → Fails K text room n p → (1 ≤ n) × (n ≤ 6)
+one-to-six (by-text f) = let h = one-to-five f in (h .0, omega (arith, h .1))
+one-to-six (small p t h) = (omega arith, omega arith)
+
 fails-one : {K : ℕ} {text room : List ℕ} {n p q : ℕ} → Fails K text room n p → Fails K text room n q → p ≡ q
-fails-one (vars h) (vars k) = refl
-fails-one (long h) (long k) = refl
-fails-one (grammar h) (grammar k) = place-one _ _ _ _ h k
-fails-one (nesting h i) (nesting k j) = refl
-fails-one (steps h i) (steps k j) = refl
+fails-one (by-text f) (by-text g) = text-fails-one f g
+fails-one (by-text f) (small q y k) = absurd (omega (arith, one-to-five f .1))
+fails-one (small p x h) (by-text g) = absurd (omega (arith, one-to-five g .1))
 fails-one (small p x h) (small q y k) = ap length (tables-one p x q y)
 
 pub record Same (p q : Printed) (x y : List ℕ) : Type 0 where

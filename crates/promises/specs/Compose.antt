@@ -10,7 +10,7 @@ use native.Mathlib.Decide.{decLe}
 use lib.ListN.{length, drop}
 use Rattle.spans.specs.declared.Spans.{Spans}
 use Rattle.table.specs.Table.{RightTable, automatonOf, mostVars, mostBytes}
-use Rattle.pattern.specs.Grammar.{Pat, Pattern, stepsOf, nestingOf}
+use Rattle.pattern.specs.Grammar.{Pat, Pattern, stepsOf}
 use Rattle.layout.specs.Layout.{TableOf}
 use Rattle.layout.specs.Words.{tableWords}
 use Rattle.layout.specs.Exact.{exact, table-one}
@@ -20,60 +20,49 @@ use Rattle.compiler.specs.declared.Compiled.the-variants.{Written, Refused}
 use Rattle.compiler.specs.Answers.{mostText, mostNesting, mostSteps, compiled, CompilesCard, Compiles}
 use Rattle.compiler.specs.Answers as made
 use Rattle.compiler.specs.Room.{room, room-enough}
+use Rattle.compiler.specs.One.{one-to-five, one-to-six}
 use Rattle.reader.specs.Answers.{Printed, reading, noReading, refusal, BestAnswer}
 use Rattle.reader.specs.Answers as answers
 use Rattle.promises.specs.Reading.{Fails, TextAnswer, CardAnswer}
 use Rattle.promises.specs.Reading as text
 
--- what is refused by numbers 1 to 5 is refused so by the text
-module _ {K : ℕ} {s rm line : List ℕ} (big : length rm ≡ room) where
-  by-text : {n p : ℕ} → made.Fails K s rm n p → ((m q : ℕ) → m < n → made.Fails K s rm m q → ⊥) → (n < 6) × Fails K s line n p
-  by-text (made.vars h) low = (omega arith, text.vars h)
-  by-text (made.long h) low = (omega arith, text.long-text h)
-  by-text (made.grammar h) low = (omega arith, text.grammar h)
-  by-text (made.nesting h k) low = (omega arith, text.nesting h k)
-  by-text (made.steps h k) low = (omega arith, text.steps h k)
-  by-text (made.small {a = a} p t h) low = absurd (omega (arith, room-enough p (at-most (decLe (length s) mostText)) (at-most-2 (decLe (stepsOf a) mostSteps)) t))
+-- what is refused by numbers 1 to 5 is refused so by the text, and number 6 does not arise
+module _ {K : ℕ} {s rm : List ℕ} (big : length rm ≡ room) where
+  enough : {a : Pat} {ws : List ℕ} → Pattern K s a → TableOf K a ws → length rm < length ws → ((m q : ℕ) → m < 6 → made.Fails K s rm m q → ⊥) → ⊥
+  enough {a} p t h low = omega (arith, room-enough p (short (decLe (length s) mostText)) (few (decLe (stepsOf a) mostSteps)) t)
     where
-      at-most : Dec (length s ≤ mostText) → length s ≤ mostText
-      at-most (yes k) = k
-      at-most (no k) = absurd (low 2 0 (omega arith) (made.long (omega arith)))
+      short : Dec (length s ≤ mostText) → length s ≤ mostText
+      short (yes k) = k
+      short (no k) = absurd (low 2 0 (omega arith) (made.by-text (made.long (omega arith))))
 
-      at-most-2 : Dec (stepsOf a ≤ mostSteps) → stepsOf a ≤ mostSteps
-      at-most-2 (yes k) = k
-      at-most-2 (no k) = absurd (low 5 0 (omega arith) (made.steps p (omega arith)))
+      few : Dec (stepsOf a ≤ mostSteps) → stepsOf a ≤ mostSteps
+      few (yes k) = k
+      few (no k) = absurd (low 5 0 (omega arith) (made.by-text (made.steps p (omega arith))))
 
-  by-table : {n p : ℕ} → n < 6 → Fails K s line n p → made.Fails K s rm n p
-  by-table h (text.vars k) = made.vars k
-  by-table h (text.long-text k) = made.long k
-  by-table h (text.grammar k) = made.grammar k
-  by-table h (text.nesting k i) = made.nesting k i
-  by-table h (text.steps k i) = made.steps k i
-  by-table h (text.long-line k) = absurd (omega arith)
-
-  pub refused-text : {n p : ℕ} → made.Fails K s rm n p → ((m q : ℕ) → m < n → made.Fails K s rm m q → ⊥) → TextAnswer K s line (refusal n p)
-  refused-text f low = let r = by-text f low in text.refused (r .1) (λ m q h g. low m q h (by-table (omega (arith, r .0)) g))
+  pub refused-text : {line : List ℕ} {n p : ℕ} → made.Fails K s rm n p → ((m q : ℕ) → m < n → made.Fails K s rm m q → ⊥) → TextAnswer K s line (refusal n p)
+  refused-text {line} (made.by-text {n = n} f) low = text.refused (text.by-text f) lows
+    where
+      lows : (m q : ℕ) → m < n → Fails K s line m q → ⊥
+      lows m q h (text.by-text g) = low m q h (made.by-text g)
+      lows m q h (text.long-line g) = omega (arith, one-to-five f .1)
+  refused-text (made.small p t h) low = absurd (enough p t h low)
 
 -- no number from 1 to 6: the limits hold
 module _ {K : ℕ} {s rm : List ℕ} (sound : (n p : ℕ) → made.Fails K s rm n p → ⊥) where
   pub few-vars-of : Dec (K ≤ mostVars) → K ≤ mostVars
   few-vars-of (yes h) = h
-  few-vars-of (no h) = absurd (sound 1 0 (made.vars (omega arith)))
+  few-vars-of (no h) = absurd (sound 1 0 (made.by-text (made.vars (omega arith))))
 
   pub short-of : Dec (length s ≤ mostText) → length s ≤ mostText
   short-of (yes h) = h
-  short-of (no h) = absurd (sound 2 0 (made.long (omega arith)))
+  short-of (no h) = absurd (sound 2 0 (made.by-text (made.long (omega arith))))
 
   pub few-steps-of : {a : Pat} → Pattern K s a → Dec (stepsOf a ≤ mostSteps) → stepsOf a ≤ mostSteps
   few-steps-of p (yes h) = h
-  few-steps-of p (no h) = absurd (sound 5 0 (made.steps p (omega arith)))
+  few-steps-of p (no h) = absurd (sound 5 0 (made.by-text (made.steps p (omega arith))))
 
   only-line : {line : List ℕ} {n p : ℕ} → Fails K s line n p → (n ≡ 8) × (mostBytes < length line)
-  only-line (text.vars h) = absurd (sound 1 0 (made.vars h))
-  only-line (text.long-text h) = absurd (sound 2 0 (made.long h))
-  only-line {p = p} (text.grammar h) = absurd (sound 3 p (made.grammar h))
-  only-line (text.nesting h k) = absurd (sound 4 0 (made.nesting h k))
-  only-line (text.steps h k) = absurd (sound 5 0 (made.steps h k))
+  only-line (text.by-text f) = absurd (sound _ _ (made.by-text f))
   only-line (text.long-line h) = (refl, h)
 
   pub read-text : {a : Pat} {line ws ex : List ℕ} {r : Printed} → Pattern K s a → TableOf K a ws → ex ≡ ws ++ drop (length ws) rm → BestAnswer ex line r → TextAnswer K s line r
@@ -124,15 +113,7 @@ pub read-so : {card rm ex line : List ℕ} {n : ℕ} {a : Printed} → length rm
 read-so {card} {rm} {ex} {line} {a = a} big c b = go c refl
   where
     inner : {K n : ℕ} {s : List ℕ} {p : made.Printed} → Compiles K s rm ex p → p ≡ made.written n → TextAnswer K s line a
-    inner (made.refused f low e) i = absurd (omega (arith, ap (λ (x : made.Printed). x .number) i, some f))
-      where
-        some : {K n p : ℕ} {s : List ℕ} → made.Fails K s rm n p → 1 ≤ n
-        some (made.vars h) = omega arith
-        some (made.long h) = omega arith
-        some (made.grammar h) = omega arith
-        some (made.nesting p h) = omega arith
-        some (made.steps p h) = omega arith
-        some (made.small p t h) = omega arith
+    inner (made.refused f low e) i = absurd (omega (arith, ap (λ (x : made.Printed). x .number) i, one-to-six f .0))
     inner (made.table sound p t e) i = read-text sound p t e b
 
     go : {p : made.Printed} {n : ℕ} → CompilesCard card rm ex p → p ≡ made.written n → CardAnswer card line a

@@ -41,17 +41,10 @@ use Rattle.layout.specs.Exact.{exact, table-one}
 use Rattle.layout.specs.Demand.{table-text}
 use Rattle.compiler.specs.Answers.{mostText, mostNesting, mostSteps, written, Compiles, CompilesCard, Fails}
 use Rattle.compiler.specs.Answers as made
+use Rattle.compiler.specs.One.{one-to-six}
 use Rattle.reader.specs.Answers.{Printed, reading, noReading, refusal, BestAnswer, SetAnswer}
 use Rattle.reader.specs.Answers as answers
 use Rattle.promises.specs.Compose.{few-vars-of, short-of, few-steps-of}
-
-one-to-six : {K : ℕ} {text room : List ℕ} {n p : ℕ} → Fails K text room n p → (1 ≤ n) × (n ≤ 6)
-one-to-six (made.vars h) = (omega arith, omega arith)
-one-to-six (made.long h) = (omega arith, omega arith)
-one-to-six (made.grammar h) = (omega arith, omega arith)
-one-to-six (made.nesting p h) = (omega arith, omega arith)
-one-to-six (made.steps p h) = (omega arith, omega arith)
-one-to-six (made.small p t h) = (omega arith, omega arith)
 
 -- DEMAND 1
 pub refused-kept : {K : ℕ} {text room exit : List ℕ} {a : made.Printed} → Compiles K text room exit a → 0 < a .number → exit ≡ room
@@ -139,11 +132,11 @@ pub compiled-when : {K : ℕ} {text room exit : List ℕ} {a : made.Printed} →
 compiled-when {K} {text} {room} (made.refused f low e) g = absurd (sound f)
   where
     sound : {n p : ℕ} → Fails K text room n p → ⊥
-    sound (made.vars h) = omega (arith, g .few-vars)
-    sound (made.long h) = omega (arith, g .short)
-    sound (made.grammar h) = h .outside (g .tree) (g .parsed)
-    sound (made.nesting q h) = omega (arith, g .shallow, ap nestingOf (tree-one q (g .parsed)))
-    sound (made.steps q h) = omega (arith, g .few-steps, ap stepsOf (tree-one q (g .parsed)))
+    sound (made.by-text (made.vars h)) = omega (arith, g .few-vars)
+    sound (made.by-text (made.long h)) = omega (arith, g .short)
+    sound (made.by-text (made.grammar h)) = h .outside (g .tree) (g .parsed)
+    sound (made.by-text (made.nesting q h)) = omega (arith, g .shallow, ap nestingOf (tree-one q (g .parsed)))
+    sound (made.by-text (made.steps q h)) = omega (arith, g .few-steps, ap stepsOf (tree-one q (g .parsed)))
     sound (made.small {ws = ws} q t h) = omega (arith, g .enough, ap length (table-one (subst (λ (x : Pat). TableOf K x ws) (tree-one q (g .parsed)) t) (g .exactly)))
 compiled-when (made.table sound p t e) g = refl
 
@@ -164,7 +157,7 @@ compiled-only {K} {text} {room} (made.table {a = a} {ws = ws} sound p t e) h =
   where
     flat : Dec (nestingOf a ≤ mostNesting) → nestingOf a ≤ mostNesting
     flat (yes h) = h
-    flat (no h) = absurd (sound 4 0 (made.nesting p (omega arith)))
+    flat (no h) = absurd (sound 4 0 (made.by-text (made.nesting p (omega arith))))
 
     wide : Dec (length ws ≤ length room) → length ws ≤ length room
     wide (yes h) = h

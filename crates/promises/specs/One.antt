@@ -12,16 +12,14 @@ use Rattle.spans.specs.Order.{not-after-antisym}
 use Rattle.pattern.specs.Best.{TextBest, TextNone}
 use Rattle.pattern.specs.One.{text-weight-one}
 use Rattle.card.specs.One.{card-one, line-one-one}
-use Rattle.compiler.specs.One.{place-one}
+use Rattle.compiler.specs.One.{text-fails-one, one-to-five}
 use Rattle.reader.specs.Answers.{Printed, reading, noReading, refusal}
-use Rattle.promises.specs.Reading.{Fails, vars, long-text, grammar, nesting, steps, long-line, TextAnswer, refused, best, none-best, CardAnswer, wrong-one, wrong-two, right}
+use Rattle.promises.specs.Reading.{Fails, by-text, long-line, TextAnswer, refused, best, none-best, CardAnswer, wrong-one, wrong-two, right}
 
 fails-one : {K : ℕ} {text line : List ℕ} {n p q : ℕ} → Fails K text line n p → Fails K text line n q → p ≡ q
-fails-one (vars h) (vars k) = refl
-fails-one (long-text h) (long-text k) = refl
-fails-one (grammar h) (grammar k) = place-one _ _ _ _ h k
-fails-one (nesting h i) (nesting k j) = refl
-fails-one (steps h i) (steps k j) = refl
+fails-one (by-text f) (by-text g) = text-fails-one f g
+fails-one (by-text f) (long-line k) = absurd (omega (arith, one-to-five f .1))
+fails-one (long-line h) (by-text g) = absurd (omega (arith, one-to-five g .1))
 fails-one (long-line h) (long-line k) = refl
 
 pub text-best-one : {K : ℕ} {text line : List ℕ} {w v : ℕ} {t s : Spans} → TextBest K text line w t → TextBest K text line v s → (w ≡ v) × (t ≡ s)

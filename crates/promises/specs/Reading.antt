@@ -7,21 +7,15 @@ use mathlib.Core.List.{List}
 use Prim.Native.Nat.{ℕ, _<_}
 use lib.ListN.{length}
 use Rattle.spans.specs.declared.Spans.{Spans}
-use Rattle.table.specs.Table.{mostVars, mostBytes}
-use Rattle.pattern.specs.Grammar.{Pat, Pattern, stepsOf, nestingOf}
+use Rattle.table.specs.Table.{mostBytes}
 use Rattle.pattern.specs.Best.{TextBest, TextNone}
-use Rattle.pattern.specs.Places.{Refused as NotInGrammar}
 use Rattle.card.specs.Form.{LineOne, LineTwo, IsCard}
-use Rattle.compiler.specs.Answers.{mostText, mostNesting, mostSteps}
+use Rattle.compiler.specs.Answers.{TextFails}
 use Rattle.reader.specs.Answers.{Printed, reading, noReading, refusal}
 
--- numbers 1 to 5 and 8: when each could be given, and its place. Number 6 cannot be: the room is large enough for every table
+-- numbers 1 to 5 of the text, and 8 of the line. Number 6 cannot be given: the room is large enough for every table
 pub data Fails (K : ℕ) (text line : List ℕ) : ℕ → ℕ → Type 0 where
-  vars : mostVars < K → Fails K text line 1 0
-  long-text : mostText < length text → Fails K text line 2 0
-  grammar : {p : ℕ} → NotInGrammar K text p → Fails K text line 3 p
-  nesting : {a : Pat} → Pattern K text a → mostNesting < nestingOf a → Fails K text line 4 0
-  steps : {a : Pat} → Pattern K text a → mostSteps < stepsOf a → Fails K text line 5 0
+  by-text : {n p : ℕ} → TextFails K text n p → Fails K text line n p
   long-line : mostBytes < length line → Fails K text line 8 0
 
 -- the answer by the pattern text: the lowest number, or the best reading
