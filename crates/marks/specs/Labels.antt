@@ -59,5 +59,5 @@ marked ls =
       s2 = placeOf 1 2 1 ls;
       e2 = placeOf 2 2 1 ls;
       s3 = placeOf 1 3 1 ls;
-      e3 = placeOf 2 3 1 ls
+      e3 = placeOf 2 3 1 ls;
     }
