@@ -155,7 +155,7 @@ fn main() {
     for n in [64, 128, 256, 512, 1024] {
         measure(&format!("by length: ec card, line of {n}"), &ec, &[stretched(&read("ec.log"), n)]);
     }
-    for rows in [31, 62, 124, 248, 496, 992] {
+    for rows in [0, 31, 62, 124, 248, 496, 992] {
         measure(&format!("by rows: K=1 S=32 R={rows}, line of 256"), &full_table(32, 1, rows), &[bytes(256)]);
     }
     for k in 0..=3 {
