@@ -10,7 +10,6 @@ use Rattle.pattern.specs.Grammar.{Pat, reads, nothing, alt, cat, star, charge, c
 use Rattle.pattern.specs.Derivations.{Item, step, Der, labels_of}
 use Rattle.pattern.specs.Derivations
 use Rattle.arcs.specs.Tree.{Tree, size, tolls, leaves, TreeDer, taken, paid, blank, left, right, then, stop, pass}
-use Rattle.arcs.specs.Tree
 
 unfoldable pub core : Pat → Tree
 core (reads lo hi) = Tree.leaf 0 (lo * 256 + hi)

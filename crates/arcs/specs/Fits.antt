@@ -10,7 +10,7 @@ use Rattle.std.proofs.Common.{eq-eqb}
 use Rattle.basics.specs.Members.{In, first, later}
 use Rattle.weight.specs.Weight.{lighter_to, joint_to}
 use Rattle.pattern.specs.Derivations.{Item, step, charged, Gap, gaps}
-use Rattle.arcs.specs.Tree.{Tree, tolls, TreeDer, taken, paid, blank, left, right, then, stop, pass}
+use Rattle.arcs.specs.Tree.{Tree, alt, size, tolls, TreeDer, taken, paid, blank, left, right, then, stop, pass}
 use Rattle.arcs.specs.Arcs.{alt_arc, cat_arc, star_arc, arc}
 
 abbrev pub Each : (ℕ → ℕ → ℕ → Type 0) → ℕ → ℕ → List Item → Type 0
@@ -20,6 +20,7 @@ Each R x c (charged n ∷ t) = Each R x (c + n) t
 
 pub each_gap : (R : ℕ → ℕ → ℕ → Type 0) (x c : ℕ) (t : List Item) → Each R x c t → {g : Gap} → In g (gaps x c t) → R g.from g.to g.total
 each_gap R x c [] h first = h.0
+each_gap R x c [] h (later m) = elim m [ ]
 each_gap R x c (step p ∷ t) h first = h.0
 each_gap R x c (step p ∷ t) h (later m) = each_gap R (suc p) 0 t h.1 m
 each_gap R x c (charged n ∷ t) h m = each_gap R x (c + n) t h m
@@ -105,10 +106,13 @@ unfolding arc tolls
 fits {o = o} taken = rw (eq-eqb o o refl) (omega arith)
 fits {o = o} paid = omega arith
 fits blank = omega arith
-fits (left {a = a} {b = b} {t = t} d) = each_map _ _ (alt_left (arc a _) (arc b _) (tolls a) (tolls b)) 0 0 t (fits d)
-fits (right {a = a} {b = b} {t = t} d) = each_map _ _ (alt_right (arc a _) (arc b _) (tolls a) (tolls b)) 0 0 t (fits d)
-fits (then {a = a} {b = b} {t = t} {s = s} d e) =
-    joined _ _ _ (cat_left (arc a _) (arc b _) (tolls a) (tolls b)) (cat_right (arc a _) (arc b _) (tolls a) (tolls b)) (cat_middle (arc a _) (arc b _) (tolls a) (tolls b)) 0 0 t (fits d) s (fits e)
+fits (left {a = a} {b = b} {o = o} {t = t} d) = each_map (Under (arc a o) (tolls a)) (Under (arc (alt a b) o) (tolls a + tolls b)) (alt_left (arc a o) (arc b (o + size a)) (tolls a) (tolls b)) 0 0 t (fits d)
+fits (right {a = a} {b = b} {o = o} {t = t} d) = each_map (Under (arc b (o + size a)) (tolls b)) (Under (arc (alt a b) o) (tolls a + tolls b)) (alt_right (arc a o) (arc b (o + size a)) (tolls a) (tolls b)) 0 0 t (fits d)
+fits (then {a = a} {b = b} {o = o} {t = t} {s = s} d e) =
+    let A = arc a o in
+    let B = arc b (o + size a) in
+    joined (Under A (tolls a)) (Under B (tolls b)) (Under (cat_arc A B) (tolls a + tolls b)) (cat_left A B (tolls a) (tolls b)) (cat_right A B (tolls a) (tolls b)) (cat_middle A B (tolls a) (tolls b)) 0 0 t (fits d) s (fits e)
 fits (stop {a = a}) = omega arith
-fits (pass {a = a} {t = t} {s = s} d e) =
-    joined _ _ _ (star_left (arc a _) (tolls a)) (λ x y c h. h) (star_middle (arc a _) (tolls a)) 0 0 t (fits d) s (fits e)
+fits (pass {a = a} {o = o} {t = t} {s = s} d e) =
+    let A = arc a o in
+    joined (Under A (tolls a)) (Under (star_arc A) (tolls a)) (Under (star_arc A) (tolls a)) (star_left A (tolls a)) (λ x y c h. h) (star_middle A (tolls a)) 0 0 t (fits d) s (fits e)

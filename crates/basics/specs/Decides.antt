@@ -8,7 +8,7 @@
 -- untrue, unfalse a test that was turned round
 -- refused, kept   what is known where the test `not b` was taken, and where it was not
 use Rattle.std.specs.Prelude.{◌≡◌, refl, Bool, true, false, not, ℕ, ◌≤◌, eqb, leb}
-use Rattle.std.proofs.Common.{sym, ◌∙◌, arith, eqb-true, leb-true, leb-false}
+use Rattle.std.proofs.Common.{sym, arith, eqb-true, leb-true, leb-false}
 use Rattle.std.proofs.lemmas.Bool.{false≢true, eqb-false}
 
 pub record Decides (P : Type 0) (b : Bool) : Type 0 where

@@ -8,8 +8,8 @@
 -- all_map         what follows from P for each element follows for all
 -- get_d_inside     below a list's length it does not matter what stands past its end
 -- equal xs ys     the test that two lists of numbers are the same
-use Rattle.std.specs.Prelude.{◌≡◌, refl, Bool, true, false, ◌&&◌, List, [], ◌∷◌, ◌++◌, map, ℕ, zero, suc, ◌+◌, ◌<◌, eqb, length, get_or}
-use Rattle.std.proofs.Common.{ap, ap₂, arith, eq-eqb, eqb-true}
+use Rattle.std.specs.Prelude.{◌≡◌, refl, Bool, true, false, ◌&&◌, List, [], ◌∷◌, ◌++◌, map, ℕ, zero, suc, ◌<◌, eqb, length, get_or}
+use Rattle.std.proofs.Common.{ap₂, arith, eq-eqb, eqb-true}
 use Rattle.std.proofs.lemmas.Bool.{false≢true}
 use Rattle.basics.specs.Every.{and_true}
 

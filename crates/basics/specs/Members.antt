@@ -5,7 +5,7 @@
 -- in_lists        a list of elements of rs is one of all lists of its length
 -- lists_in        one of all lists of m elements has m elements, each of rs
 use Rattle.std.specs.Prelude.{◌≡◌, refl, ◌⊎◌, List, [], ◌∷◌, ◌++◌, map, ℕ, zero, suc, ◌+◌, ◌<◌, ◌≤◌, length}
-use Rattle.std.proofs.Common.{sym, ap, ◌∙◌, inl, inr, arith}
+use Rattle.std.proofs.Common.{ap, inl, inr, arith}
 use Rattle.std.proofs.Math.Decide.{ℕ_discrete}
 use Rattle.basics.specs.Lists.{from, below, conses, lists, pairs, All}
 

@@ -21,7 +21,7 @@ use Rattle.table.specs.Table.{Automaton, automaton_of, RightTable}
 use Rattle.runs.specs.Runs.{labels, rows_of, valid_run, weight_of, weight_of_set}
 use Rattle.runs.specs.Marking.{Marking}
 use Rattle.runs.specs.Least.{weight_least, rows_in}
-use Rattle.togo.specs.Price.{base, cap, placed, answer}
+use Rattle.togo.specs.Price.{base, placed, answer}
 use Rattle.togo.specs.Right.{right_automaton, right_labels}
 use Rattle.togo.specs.Sets.{Pinned}
 use Rattle.best.specs.Best.{IsBest, IsNone, HasRun}

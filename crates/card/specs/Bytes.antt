@@ -1,14 +1,13 @@
 -- METHOD. The form of a card by places in its text, and that this is the form that Form.antt defines.
 --
 -- FirstRight text K       line 1 is right, by places
-use Rattle.std.specs.Prelude.{◌≡◌, refl, List, [], ◌∷◌, ◌++◌, ℕ, suc, ◌+◌, ◌-◌, ◌≤◌, ◌<◌, length, get_or, take, drop}
+use Rattle.std.specs.Prelude.{◌≡◌, refl, List, [], ◌∷◌, ◌++◌, ℕ, suc, ◌+◌, ◌≤◌, ◌<◌, length, get_or, take, drop}
 use Rattle.std.proofs.Common.{sym, ap, ap₂, ◌∙◌, add-one, arith, length-append, take-append-drop, length-take, length-drop, drop-cons, get_or-drop, get_or-take, drop-drop, length-take-le, take-suc, get_or-append-add}
 use Rattle.std.proofs.Math.Seq.{slice, length-slice, get_or-append_seam}
 use Rattle.std.proofs.lemmas.List.{drop-append-le}
 use Rattle.lines.specs.Ends.{EndsAt, lf}
-use Rattle.card.specs.declared.Form.{Form}
 use Rattle.card.specs.declared.Form.TheVariants.{Right, Wrong}
-use Rattle.card.specs.Form.{vars_key, pattern_key, LineOne, LineTwo, IsCard, FormOf, right, wrong_one, wrong_two}
+use Rattle.card.specs.Form.{vars_key, pattern_key, LineOne, LineTwo, FormOf, right, wrong_one, wrong_two}
 
 pub record FirstRight (text : List ℕ) (K : ℕ) : Type 0 where
   pub long : 7 ≤ length text

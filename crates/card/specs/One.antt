@@ -2,12 +2,11 @@
 --
 -- card_one        one K, one pattern, one rest
 -- form_one        one answer
-use Rattle.std.specs.Prelude.{◌≡◌, refl, List, [], ◌∷◌, ◌++◌, ℕ, zero, suc, ◌+◌, ◌≤◌, ◌<◌, length, get_or, drop}
+use Rattle.std.specs.Prelude.{◌≡◌, refl, List, [], ◌∷◌, ◌++◌, ℕ, suc, ◌<◌, length, get_or, drop}
 use Rattle.std.proofs.Common.{sym, ap, ap₂, ◌∙◌, arith}
 use Rattle.lines.specs.Ends.{lf}
 use Rattle.card.specs.declared.Form.{Form}
-use Rattle.card.specs.declared.Form.TheVariants.{Right, Wrong}
-use Rattle.card.specs.Form.{vars_key, pattern_key, LineOne, LineTwo, IsCard, FormOf, right, wrong_one, wrong_two}
+use Rattle.card.specs.Form.{LineOne, LineTwo, IsCard, FormOf, right, wrong_one, wrong_two}
 use Rattle.card.specs.Bytes.{line_first}
 
 -- none of the bytes is LF

@@ -3,13 +3,13 @@
 -- Stands text K from to   there is a card of K variables, whose pattern is that part of the text
 -- stands                  what the form of a card says of it
 -- wrong_line              or which line is wrong
-use Rattle.std.specs.Prelude.{◌≡◌, refl, List, [], ◌∷◌, ◌++◌, ℕ, ◌+◌, ◌-◌, ◌≤◌, length, take, drop}
-use Rattle.std.proofs.Common.{sym, ap, ap₂, ◌∙◌, subst, arith, length-append}
+use Rattle.std.specs.Prelude.{◌≡◌, List, ◌∷◌, ◌++◌, ℕ, ◌+◌, ◌-◌, ◌≤◌, length, take, drop}
+use Rattle.std.proofs.Common.{ap, ◌∙◌, subst, arith, length-append}
 use Rattle.std.proofs.Math.Seq.{take-append_seam}
 use Rattle.lines.specs.Ends.{lf}
 use Rattle.card.specs.declared.Form.{Form}
 use Rattle.card.specs.declared.Form.TheVariants.{Right, Wrong}
-use Rattle.card.specs.Form.{LineOne, LineTwo, IsCard, FormOf, right, wrong_one, wrong_two}
+use Rattle.card.specs.Form.{IsCard, FormOf, right}
 
 pub record Stands (text : List ℕ) (K from to : ℕ) : Type 0 where
   pub pattern : List ℕ

@@ -1,6 +1,8 @@
 // The form of a card: its two lines, with their fixed keys compared byte for byte (01, "The card and the program").
 // Finds where the pattern stands and how many variables are asked for, or the line that is wrong (number 10).
 // One pass over the card's text; no arrays.
+#![tactic(auto)]
+
 ghost use Rattle.std.specs.Prelude.{◌≡◌, ◌+◌, ◌≤◌, length, take, drop};
 ghost use Rattle.basics.specs.Decides.{Decides};
 ghost use Rattle.card.specs.Form.{FormOf};
@@ -10,7 +12,7 @@ const VARS: [u8; 5] = [b'v', b'a', b'r', b's', b'='];
 
 const PATTERN: [u8; 8] = [b'p', b'a', b't', b't', b'e', b'r', b'n', b'='];
 
-#[derive(Drop)]
+#[derive(Clone, Copy)]
 pub enum Form {
     // vars: the number after `vars=`. The pattern stands from byte `from` up to but not `to`, counted from 0.
     Right { vars: u32, from: usize, to: usize },

@@ -1,11 +1,13 @@
 // A cell: a weight, and among equal weights a key, which packs the positions of the markers (01, "The table": the lightest,
 // and of several sets of that weight the one that stands first). Compared weight first, then key. No loop.
+#![tactic(auto)]
+
 ghost use Rattle.std.specs.Prelude.{◌≡◌};
 ghost use Rattle.weight.specs.Weight.{lighter_to, joint_to};
 ghost use Rattle.togo.specs.Price.{cap};
 ghost use Rattle.cell.specs.Value.{value};
 
-#[derive(Drop)]
+#[derive(Clone, Copy)]
 pub struct Cell {
     pub weight: u32,
     pub key: u64,

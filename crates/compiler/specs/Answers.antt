@@ -8,7 +8,7 @@
 --                         what the room holds then: the lowest number that could be given and the room as before, or no number
 --                         and the exact table of the text's tree, with the words after it as before
 -- CompilesCard            the same for a whole card: its form first, number 10
-use Rattle.std.specs.Prelude.{◌≡◌, List, ◌++◌, ℕ, ◌≤◌, ◌<◌, length, drop}
+use Rattle.std.specs.Prelude.{◌≡◌, List, ◌++◌, ℕ, ◌<◌, length, drop}
 use Rattle.table.specs.Table.{most_vars}
 use Rattle.pattern.specs.Grammar.{Pat, Pattern, steps_of, nesting_of}
 use Rattle.pattern.specs.Places.{Refused as NotInGrammar}

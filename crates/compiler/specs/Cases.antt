@@ -1,6 +1,6 @@
 -- The cases of compiling, one for each number and one for the table: what the code has seen makes the answer right.
-use Rattle.std.specs.Prelude.{◌≡◌, refl, List, ◌++◌, ℕ, ◌+◌, ◌≤◌, ◌<◌, length, drop}
-use Rattle.std.proofs.Common.{sym, ap, ◌∙◌, subst, arith}
+use Rattle.std.specs.Prelude.{◌≡◌, List, ◌++◌, ℕ, ◌+◌, ◌≤◌, ◌<◌, length, drop}
+use Rattle.std.proofs.Common.{ap, subst, arith}
 use Rattle.table.specs.Table.{most_vars}
 use Rattle.pattern.specs.Grammar.{Pat, Pattern, steps_of, nesting_of}
 use Rattle.pattern.specs.Places.{Refused as NotInGrammar}

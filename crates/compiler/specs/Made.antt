@@ -1,9 +1,8 @@
 -- What the parser leaves in the cells and labels is the table of the text's tree, word for word.
 --
 -- made_table      the words that are emitted from them are the words of the tree's table
-use Rattle.std.specs.Prelude.{◌≡◌, refl, List, ◌++◌, ℕ, zero, suc, ◌+◌, ◌*◌, ◌≤◌, ◌<◌, length, get_or, drop}
-use Rattle.std.proofs.Common.{sym, ap, ap₂, ◌∙◌, subst, arith}
-use Rattle.marks.specs.Labels.{Label}
+use Rattle.std.specs.Prelude.{◌≡◌, List, ◌++◌, ℕ, ◌≤◌, ◌<◌, length, drop}
+use Rattle.std.proofs.Common.{ap, ◌∙◌, subst, arith}
 use Rattle.table.specs.Table.{most_vars}
 use Rattle.pattern.specs.Grammar.{Pat, Pattern, steps_of, nesting_of}
 use Rattle.pattern.specs.Places.{Refused as NotInGrammar}

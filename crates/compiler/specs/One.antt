@@ -5,13 +5,11 @@
 use Rattle.std.specs.Prelude.{◌≡◌, refl, List, ◌++◌, ℕ, ◌≤◌, ◌<◌, length, drop}
 use Rattle.std.proofs.Common.{sym, ap, ap₂, ◌∙◌, subst, arith}
 use Rattle.std.proofs.Math.Decide.{dec_lt}
-use Rattle.pattern.specs.Grammar.{Pat, Pattern, steps_of, nesting_of}
-use Rattle.pattern.specs.Places.{Refused as NotInGrammar}
+use Rattle.pattern.specs.Grammar.{Pat, Pattern}
 use Rattle.pattern.specs.Laws.{tree_one}
 use Rattle.pattern.specs.One.{place_one}
 use Rattle.layout.specs.Layout.{TableOf}
 use Rattle.layout.specs.Exact.{table_one}
-use Rattle.card.specs.Form.{LineOne, LineTwo, IsCard}
 use Rattle.card.specs.One.{card_one, line_one_one}
 use Rattle.compiler.specs.Answers.{Printed, written, refusal, TextFails, vars, long, grammar, nesting, steps, Fails, by_text, small, Compiles, refused, table, CompilesCard, wrong_one, wrong_two, right}
 

@@ -1,6 +1,8 @@
 // From a card to a table (01, "The compiled table, exactly"; numbers 1 to 6, and 10 before them).
 // The text is parsed and its arcs are built in one pass, into 1,024 words on the stack; then the words of the table are written
 // into the lent room, if they fit. A refused call leaves the room as it was.
+#![tactic(auto)]
+
 ghost use Rattle.std.specs.Prelude.{◌≤◌, ◌≡◌};
 ghost use Rattle.compiler.specs.Answers.{compiled, Compiles, CompilesCard};
 ghost use Rattle.compiler.specs.Made.{Small, compiled_from};
@@ -18,7 +20,7 @@ pub const MOST_NESTING: usize = 16;
 
 pub const MOST_STEPS: usize = 31;
 
-#[derive(Drop)]
+#[derive(Clone, Copy)]
 pub enum Compiled {
     // The words of the table, now at the start of the room.
     Written { words: usize },

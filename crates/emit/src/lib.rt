@@ -1,6 +1,8 @@
 // The words of a compiled table, written into the lent room from the arcs and the labels of a text (01, "The compiled table, exactly").
 // Number 6 where the room is too short: then no word is written. Words after the table stay as they were.
 // Each of the steps × (steps + 1) cells is looked at twice, to count the rows and to write them. No stack to speak of.
+#![tactic(auto)]
+
 ghost use Rattle.std.specs.Prelude.{◌≡◌, ℕ, suc, ◌+◌, ◌≤◌, [], ◌∷◌, length};
 ghost use Rattle.marks.specs.Labels.{Label};
 ghost use Rattle.layout.specs.Words.{rows_for, rows_of, ends_of, spread};
@@ -9,7 +11,7 @@ ghost use Rattle.emit.specs.Wrote.{arrow_words, from_words, row_words, Wrote};
 
 use table::Row;
 
-#[derive(Drop)]
+#[derive(Clone, Copy)]
 pub enum Emitted {
     // The words of the table, all of them written.
     Written { words: usize },

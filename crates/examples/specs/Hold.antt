@@ -1,37 +1,27 @@
--- The examples hold: one test over the whole table, computed, and the lemma that makes each example of it.
+-- The test of an example, and the lemma that makes an example of it. That every example passes is proofs/Hold.antt.
 --
 -- tells ws line s     the test that the kernel, over the words ws, answers the line with s
 -- right c             the test of a card: 01's limits, its words, its lines
--- all_right           THE COMPUTED TEST: every card of the table passes
+-- pass_all            what a test says that every element of a list passes
+-- all_both            two facts of every element together
 -- card_holds          what the test of a card says of its text and its table
--- examples_hold       THE THEOREM: every example of the table holds
 use Rattle.std.specs.Prelude.{◌≡◌, refl, Bool, true, ◌&&◌, List, [], ◌∷◌, ◌++◌, ℕ, ◌+◌, ◌*◌, ◌≤◌, leb, ltb, eqb, length}
 use Rattle.std.proofs.Common.{sym, ◌∙◌, append-nil, arith, leb-true, ltb-true, eqb-true}
 use Rattle.basics.specs.Every.{and_true}
 use Rattle.basics.specs.Lists.{All, all_map, equal, equal_true}
-use Rattle.weight.specs.Weight.{mark, lighter_to, joint_to}
-use Rattle.weight.specs.Semiring.{sum}
-use Rattle.weight.specs.Totals.{after, togo}
+use Rattle.weight.specs.Weight.{mark}
 use Rattle.spans.specs.Spans.{same}
 use Rattle.spans.specs.Order.{same_true}
-use Rattle.marks.specs.Labels.{reads}
-use Rattle.setting.specs.Setting.{move_of}
-use Rattle.table.specs.Table.{automaton_of, rows_from, most_vars}
-use Rattle.togo.specs.ToGo.{pass, read_on, next, step, admits, held, ending, kernel}
-use Rattle.togo.specs.Price.{base, key_at, big_price, big_end, key_of, answer}
+use Rattle.table.specs.Table.{automaton_of, most_vars}
+use Rattle.togo.specs.Price.{base, key_of, answer}
 use Rattle.best.specs.Decode.{spans_of_key}
 use Rattle.best.specs.Questions.{best_answer, none_answer}
 use Rattle.pattern.specs.Grammar.{Pat, Pattern, steps_of, nesting_of}
-use Rattle.pattern.specs.Derivations.{labels_of, nth_label}
-use Rattle.arcs.specs.Tree.{size}
-use Rattle.arcs.specs.Core.{core}
-use Rattle.arcs.specs.Arcs.{arc}
-use Rattle.layout.specs.Gather.{gather}
-use Rattle.layout.specs.Words.{arrow, spread, words_of, table_words}
+use Rattle.layout.specs.Words.{table_words}
 use Rattle.layout.specs.Exact.{exact}
 use Rattle.layout.specs.Reading.{is_right, best_text, none_text}
-use Rattle.examples.specs.Cards.{Said, reading, no_reading, Card, examples, Within, Says, Holds}
-use Rattle.examples.specs.Texts.{Parsed, texts_parse}
+use Rattle.examples.specs.Cards.{Said, reading, no_reading, Card, Within, Says, Holds}
+use Rattle.examples.specs.Texts.{Parsed}
 
 -- every position is allowed
 abbrev pub anywhere : ℕ → ℕ → Bool
@@ -57,15 +47,11 @@ compiled c = eqb (length c.words) c.room && equal (table_words c.vars c.tree) c.
 abbrev pub right : Card → Bool
 right c = limits c && (compiled c && passes (λ x. tells c.words x.line x.said) c.lines)
 
-pub all_right : passes right examples ≡ true
-unfolding steps_of nesting_of labels_of nth_label size core arc gather arrow spread words_of lighter_to joint_to sum automaton_of rows_from answer kernel togo after step pass read_on reads next move_of admits held ending big_price big_end key_at
-all_right = refl
-
-pass_all : {R : Type 0} (f : R → Bool) (xs : List R) → passes f xs ≡ true → All (λ x. f x ≡ true) xs
+pub pass_all : {R : Type 0} (f : R → Bool) (xs : List R) → passes f xs ≡ true → All (λ x. f x ≡ true) xs
 pass_all f [] e = tt
 pass_all f (x ∷ xs) e = let p = and_true (f x) (passes f xs) e in (p.0, pass_all f xs p.1)
 
-all_both : {R : Type 0} {P Q S : R → Type 0} → ((x : R) → P x → Q x → S x) → (xs : List R) → All P xs → All Q xs → All S xs
+pub all_both : {R : Type 0} {P Q S : R → Type 0} → ((x : R) → P x → Q x → S x) → (xs : List R) → All P xs → All Q xs → All S xs
 all_both f [] h g = tt
 all_both f (x ∷ xs) h g = (f x h.0 g.0, all_both f xs h.1 g.1)
 
@@ -111,6 +97,3 @@ card_holds c p e =
           };
       answers = all_map (λ x t. says p.is l.short l.few_steps l.few_vars c.words are x.line x.said t) c.lines (pass_all _ c.lines i.1);
     }
-
-pub examples_hold : All Holds examples
-examples_hold = all_both card_holds examples texts_parse (pass_all right examples all_right)

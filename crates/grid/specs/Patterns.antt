@@ -10,7 +10,6 @@ use Rattle.std.proofs.Common.{arith}
 use Rattle.weight.specs.Weight.{lighter, joint, mark}
 use Rattle.pattern.specs.Grammar.{Pat, reads, nothing, alt, cat, star, charge, capture, steps_of, Pattern}
 use Rattle.arcs.specs.Tree.{Tree, size, tolls}
-use Rattle.arcs.specs.Tree
 use Rattle.arcs.specs.Core.{core, core_size, few_tolls}
 use Rattle.arcs.specs.Exact.{arc_of}
 use Rattle.grid.specs.Cells.{Cleared, Leafed, Linked, Joined}

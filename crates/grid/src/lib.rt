@@ -1,6 +1,8 @@
 // The arcs of a pattern as 32 × 32 words, built in place while the text is read (01, "The pattern on the card"): from x to y at
 // x × 32 + y, the mark where there is none. A part's weight for no step is handed on apart, so the word at 0 waits for the end.
 // leaf writes two words; clear, link and raise pass over 1,024, whatever the text. No stack to speak of.
+#![tactic(auto)]
+
 ghost use Rattle.std.specs.Prelude.{◌≡◌, ◌+◌, ◌*◌, ◌≤◌, ◌<◌, length};
 ghost use Rattle.weight.specs.Weight.{mark, lighter, joint};
 ghost use Rattle.grid.specs.Cells.{bridge, extra, Cleared, Leafed, Linked, Raised, Joined};

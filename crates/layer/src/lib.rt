@@ -3,6 +3,8 @@
 // use, and a closing under the marker rows, from the highest setting down, since a marker always raises the setting.
 // A byte costs rows + (rows that read it + marker rows) × 3^K cells. The stack is about 46 KB, whatever the line: four layers, since
 // a step takes and gives them by value, and where the marker rows start.
+#![tactic(auto)]
+
 ghost use Rattle.std.specs.Prelude.{◌≡◌, cond, ◌&&◌, map, [], ◌+◌, ◌-◌, ◌*◌, ◌^◌, ◌≤◌, ◌<◌, leb, length, get_or, take};
 ghost use Rattle.weight.specs.Weight.{joint_to};
 ghost use Rattle.spans.specs.Spans.{digit};

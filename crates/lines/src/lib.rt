@@ -1,5 +1,7 @@
 // Lines parted by LF, in a piece of input and across pieces (01, "The card and the program").
 // `line_end` finds where a line ends; `keep` holds the part of a line that the next piece will go on with, as far as there is room.
+#![tactic(auto)]
+
 ghost use Rattle.std.specs.Prelude.{◌≡◌, ◌+◌, ◌-◌, ◌≤◌, min, length, drop};
 ghost use Rattle.std.proofs.Math.Seq.{paste};
 ghost use Rattle.lines.specs.Ends.{EndsAt};

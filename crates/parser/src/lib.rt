@@ -1,6 +1,8 @@
 // The card's parser (01, "The pattern on the card"; number 3 of "Numbers, places and order of checks"). It builds the arcs as it goes:
 // pattern, term, factor and atom call one another, the bytes left falling. A byte is looked at a few times, and each join of two parts
 // passes twice over the 1,024 cells. Stack: 656 bytes for each open bracket, 416 for each factor of a term; 168 KB for 255 `(`.
+#![tactic(auto)]
+
 ghost use Rattle.std.specs.Prelude.{◌≡◌, ◌+◌, ◌≤◌, ◌<◌, max, length, get_or};
 ghost use Rattle.pattern.specs.Bytes.{shown};
 ghost use Rattle.pattern.specs.Grammar.{Pattern, Term, Factor, Atom};
@@ -13,7 +15,7 @@ ghost use Rattle.parser.specs.Grown.{Stepped, Entered, Left};
 use pattern::Class;
 
 // A part of the text: the place after it, its steps, its nesting, and what is charged where it takes no step; the mark, if it must take one.
-#[derive(Drop)]
+#[derive(Clone, Copy)]
 pub struct Part {
     pub next: usize,
     pub steps: usize,
@@ -22,14 +24,14 @@ pub struct Part {
 }
 
 // A part of the text, or the place at which there is none.
-#[derive(Drop)]
+#[derive(Clone, Copy)]
 pub enum Piece {
     Here { part: Part },
     Fails { place: usize },
 }
 
 // The numbers of the whole text's part, or the place of number 3.
-#[derive(Drop)]
+#[derive(Clone, Copy)]
 pub enum Parsed {
     Good {
         next: usize,
@@ -43,7 +45,7 @@ pub enum Parsed {
 }
 
 // What the first bytes of an atom are. A group opens variable 0.
-#[derive(Drop)]
+#[derive(Clone, Copy)]
 pub enum Head {
     Byte {
         next: usize,

@@ -1,8 +1,10 @@
 // The bytes of a pattern, sorted into plain, reserved and illegal (01, "The pattern on the card"). A few comparisons for each byte.
+#![tactic(auto)]
+
 ghost use Rattle.std.specs.Prelude.{◌≡◌};
 ghost use Rattle.pattern.specs.Bytes.{byte_class};
 
-#[derive(Drop)]
+#[derive(Clone, Copy)]
 pub enum Class {
     Plain,
     Reserved,

@@ -3,7 +3,7 @@
 -- Word n           a number of 32 bits
 -- Words a          the numbers of an answer are of 32 bits, as they are in the code
 -- printed_most     what is printed of an answer is at most 128 bytes long
-use Rattle.std.specs.Prelude.{Bool, true, false, cond, [], ◌++◌, ℕ, zero, suc, ◌+◌, ◌-◌, ◌/◌, ◌^◌, ◌≤◌, ◌<◌, ltb, length}
+use Rattle.std.specs.Prelude.{Bool, true, false, cond, [], ◌++◌, ℕ, zero, suc, ◌/◌, ◌^◌, ◌≤◌, ◌<◌, ltb, length}
 use Rattle.std.proofs.Common.{pow-suc, div-lt_iff_lt-mul, arith, lt-ltb, le-ltb, length-append}
 use Rattle.std.proofs.Math.Decide.{dec_lt}
 use Rattle.reader.specs.declared.Answer.{Answer}

@@ -1,8 +1,10 @@
 // What the program prints of an answer, put into a lent buffer (01, "The card and the program").
 // A buffer that is too small holds as much of it as there is room for; an answer takes at most MOST bytes.
+#![tactic(auto)]
+
 ghost use Rattle.std.specs.Prelude.{◌≡◌, ◌≤◌, length};
 ghost use Rattle.printing.specs.Puts.{Puts};
-ghost use Rattle.printing.specs.Text.{decimal, keyed as Text·keyed, field as Text·field, variable as Text·variable, variables as Text·variables, refusal as Text·refusal, printed};
+ghost use Rattle.printing.specs.Text.{decimal, keyed as text_keyed, field as text_field, variable as text_variable, variables as text_variables, refusal as text_refusal, printed};
 
 use reader::Answer;
 use spans::Spans;
@@ -34,7 +36,7 @@ fn number(out: &mut [u8], at: usize, n: u32) -> usize
 
 fn keyed(out: &mut [u8], at: usize, key: &[u8], n: u32) -> usize
     requires { at ≤ length out.old }
-    ensures { Puts out.old at (Text·keyed key.now n) out.new result }
+    ensures { Puts out.old at (text_keyed key.now n) out.new result }
 {
     let a = text(out, at, key);
     number(out, a, n)
@@ -42,7 +44,7 @@ fn keyed(out: &mut [u8], at: usize, key: &[u8], n: u32) -> usize
 
 fn field(out: &mut [u8], at: usize, key: &[u8], n: u32) -> usize
     requires { at ≤ length out.old }
-    ensures { Puts out.old at (Text·field key.now n) out.new result }
+    ensures { Puts out.old at (text_field key.now n) out.new result }
 {
     let a = keyed(out, at, key, n);
     text(out, a, b"\n")
@@ -50,7 +52,7 @@ fn field(out: &mut [u8], at: usize, key: &[u8], n: u32) -> usize
 
 fn variable(out: &mut [u8], at: usize, k: u32, i: u32, s: u32, e: u32) -> usize
     requires { at ≤ length out.old }
-    ensures { Puts out.old at (Text·variable k i s e) out.new result }
+    ensures { Puts out.old at (text_variable k i s e) out.new result }
 {
     if k < i {
         return at;
@@ -62,7 +64,7 @@ fn variable(out: &mut [u8], at: usize, k: u32, i: u32, s: u32, e: u32) -> usize
 
 fn variables(out: &mut [u8], at: usize, k: u32, t: Spans) -> usize
     requires { at ≤ length out.old }
-    ensures { Puts out.old at (Text·variables k t) out.new result }
+    ensures { Puts out.old at (text_variables k t) out.new result }
 {
     let a = variable(out, at, k, 1, t.s1, t.e1);
     let b = variable(out, a, k, 2, t.s2, t.e2);
@@ -71,7 +73,7 @@ fn variables(out: &mut [u8], at: usize, k: u32, t: Spans) -> usize
 
 fn refusal(out: &mut [u8], at: usize, number: u32, place: u32) -> usize
     requires { at ≤ length out.old }
-    ensures { Puts out.old at (Text·refusal number place) out.new result }
+    ensures { Puts out.old at (text_refusal number place) out.new result }
 {
     let a = text(out, at, b"answer=refused\n");
     let b = field(out, a, b"code=", number);

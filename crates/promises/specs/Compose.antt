@@ -5,8 +5,7 @@
 use Rattle.std.specs.Prelude.{◌≡◌, refl, List, ◌++◌, ℕ, ◌≤◌, ◌<◌, length, drop}
 use Rattle.std.proofs.Common.{ap, ◌∙◌, subst, arith}
 use Rattle.std.proofs.Math.Decide.{dec_le}
-use Rattle.spans.specs.declared.Spans.{Spans}
-use Rattle.table.specs.Table.{RightTable, automaton_of, most_vars, most_bytes}
+use Rattle.table.specs.Table.{RightTable, most_vars, most_bytes}
 use Rattle.pattern.specs.Grammar.{Pat, Pattern, steps_of}
 use Rattle.layout.specs.Layout.{TableOf}
 use Rattle.layout.specs.Words.{table_words}

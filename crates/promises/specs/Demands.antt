@@ -13,14 +13,13 @@
 --   compiled_when, compiled_only   a text is compiled exactly when its form and limits are right and its table fits
 --   text_is        the table then gives, for every line and set, the weight that the text gives
 --   mark_is        and the mark exactly where the text has no derivation
-use Rattle.std.specs.Prelude.{◌≡◌, refl, ◌⊎◌, ◌↔◌, List, ◌++◌, ℕ, ◌+◌, ◌≤◌, ◌<◌, length, drop}
-use Rattle.std.proofs.Common.{sym, ap, ◌∙◌, subst, inl, inr, arith}
+use Rattle.std.specs.Prelude.{◌≡◌, refl, ◌⊎◌, ◌↔◌, List, ℕ, ◌≤◌, ◌<◌, length, drop}
+use Rattle.std.proofs.Common.{ap, ◌∙◌, subst, inl, inr, arith}
 use Rattle.std.proofs.Math.Decide.{dec_le}
 use Rattle.std.proofs.Math.Seq.{drop-append_seam}
 use Rattle.weight.specs.Weight.{mark, Least}
 use Rattle.weight.specs.Least.{least_one}
 use Rattle.spans.specs.declared.Spans.{Spans}
-use Rattle.spans.specs.Spans.{SetOfSpans, none}
 use Rattle.table.specs.Table.{RightTable, automaton_of, most_vars, most_bytes}
 use Rattle.runs.specs.Runs.{weight_of_set}
 use Rattle.runs.specs.Marking.{Marking}
@@ -28,7 +27,7 @@ use Rattle.runs.specs.Least.{weight_least}
 use Rattle.best.specs.Best.{IsBest, IsNone, HasRun}
 use Rattle.best.specs.Questions.{none_runs, runs_none}
 use Rattle.pattern.specs.Grammar.{Pat, Pattern, steps_of, nesting_of}
-use Rattle.pattern.specs.Derivations.{WeightOfText, Gives}
+use Rattle.pattern.specs.Derivations.{WeightOfText}
 use Rattle.pattern.specs.One.{text_weight_one}
 use Rattle.pattern.specs.Laws.{tree_one}
 use Rattle.layout.specs.Layout.{TableOf}

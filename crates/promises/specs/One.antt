@@ -2,8 +2,8 @@
 --
 -- text_answer_one     for a pattern text
 -- card_answer_one     for a card
-use Rattle.std.specs.Prelude.{◌≡◌, refl, List, ℕ, ◌≤◌, ◌<◌}
-use Rattle.std.proofs.Common.{sym, ap, ap₂, ◌∙◌, arith}
+use Rattle.std.specs.Prelude.{◌≡◌, refl, List, ℕ, ◌<◌}
+use Rattle.std.proofs.Common.{ap₂, arith}
 use Rattle.std.proofs.Math.Decide.{dec_lt}
 use Rattle.spans.specs.declared.Spans.{Spans}
 use Rattle.spans.specs.Order.{not_after_antisym}
@@ -11,7 +11,7 @@ use Rattle.pattern.specs.Best.{TextBest, TextNone}
 use Rattle.pattern.specs.One.{text_weight_one}
 use Rattle.card.specs.One.{card_one, line_one_one}
 use Rattle.compiler.specs.One.{text_fails_one, one_to_five}
-use Rattle.reader.specs.Answers.{Printed, reading, no_reading, refusal}
+use Rattle.reader.specs.Answers.{Printed, reading, refusal}
 use Rattle.promises.specs.Reading.{Fails, by_text, long_line, TextAnswer, refused, best, none_best, CardAnswer, wrong_one, wrong_two, right}
 
 fails_one : {K : ℕ} {text line : List ℕ} {n p q : ℕ} → Fails K text line n p → Fails K text line n q → p ≡ q

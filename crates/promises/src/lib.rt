@@ -1,5 +1,7 @@
 // The customer's page: a card and a line in, the answer out, promised of the card's text alone (01, demands 1, 2 and 3).
 // The statements of the three demands stand in specs/Demands.antt, each proved in a line or two from the crates below.
+#![tactic(auto)]
+
 ghost use Rattle.reader.specs.Answers.{read as shown};
 ghost use Rattle.promises.specs.Reading.{CardAnswer};
 

@@ -2,19 +2,19 @@
 --
 -- Refuses         what `refused` answers: 7, 8 or 0
 -- open_ranges, pinned_ranges   the ranges that the two questions are asked with
-use Rattle.std.specs.Prelude.{◌≡◌, refl, Bool, true, false, ◌&&◌, List, [], ◌∷◌, ℕ, zero, suc, ◌+◌, ◌*◌, ◌≤◌, ◌<◌, eqb, leb, length, get_or}
-use Rattle.std.proofs.Common.{sym, ap, ◌∙◌, arith}
+use Rattle.std.specs.Prelude.{◌≡◌, refl, Bool, true, false, ◌&&◌, List, [], ◌∷◌, ℕ, zero, suc, ◌+◌, ◌*◌, ◌≤◌, ◌<◌, eqb, leb, length}
+use Rattle.std.proofs.Common.{sym, ◌∙◌, arith}
 use Rattle.std.proofs.Math.Decide.{ℕ_discrete}
 use borrow.Author.Tests.{le-leb, lt-leb, eq-eqb, ne_eqb}
 use Rattle.weight.specs.Weight.{mark}
 use Rattle.spans.specs.declared.Spans.{Spans}
 use Rattle.spans.specs.Spans.{SetOfSpans}
 use Rattle.table.specs.Table.{RightTable, automaton_of, most_bytes}
-use Rattle.togo.specs.Price.{base, allowed, placed, answer}
+use Rattle.togo.specs.Price.{base, allowed, answer}
 use Rattle.togo.specs.Sets.{Pinned}
 use Rattle.best.specs.Decode.{spans_of_key}
 use Rattle.best.specs.Questions.{Open, set_answer, best_answer, none_answer}
-use Rattle.reader.specs.Answers.{Printed, reading, no_reading, refusal, Fails, table, long, FailsSet, reading_it, no_set, BestAnswer, not_read, best, no_run, SetAnswer, not_weighed, weight}
+use Rattle.reader.specs.Answers.{reading, no_reading, refusal, Fails, table, long, FailsSet, reading_it, no_set, BestAnswer, not_read, best, no_run, SetAnswer, not_weighed, weight}
 use Rattle.spans.specs.Spans.{none}
 
 -- the lowest of 7 and 8 that could be given, or 0

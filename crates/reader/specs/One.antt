@@ -8,7 +8,7 @@ use Rattle.std.proofs.Math.Decide.{dec_lt}
 use Rattle.spans.specs.declared.Spans.{Spans}
 use Rattle.table.specs.Table.{automaton_of}
 use Rattle.best.specs.Questions.{best_one, best_not_none}
-use Rattle.reader.specs.Answers.{Printed, reading, no_reading, refusal, Fails, BestAnswer, not_read, best, no_run, SetAnswer, not_weighed, weight}
+use Rattle.reader.specs.Answers.{Printed, reading, refusal, Fails, BestAnswer, not_read, best, no_run, SetAnswer, not_weighed, weight}
 
 -- the lowest number that could be given is one number
 lowest_one : (F : ℕ → Type 0) (n m : ℕ) → F n → ((i : ℕ) → i < n → F i → ⊥) → F m → ((i : ℕ) → i < m → F i → ⊥) → n ≡ m

@@ -1,5 +1,7 @@
 // The two questions asked of a table (01, "The table"): the weight of a given set, and the best reading of a line.
 // Both are one backward pass over the line; numbers 7, 8 and 9 are given here. Any words, any line, any six numbers.
+#![tactic(auto)]
+
 ghost use Rattle.std.specs.Prelude.{◌≡◌};
 ghost use Rattle.best.specs.Decode.{spans_of_key};
 ghost use Rattle.reader.specs.Answers.{weighed, read, SetAnswer, BestAnswer};
@@ -14,14 +16,14 @@ pub const MOST_BYTES: usize = 1024;
 const MARK: u32 = Weight::MARK.number;
 
 // What is said of a set: its weight, the mark included, or a refusal.
-#[derive(Drop)]
+#[derive(Clone, Copy)]
 pub enum Weighed {
     Weighs { weight: Weight },
     Refused { number: u32, place: u32 },
 }
 
 // What is said of a line, by name: a reading, no reading, or a refusal.
-#[derive(Drop)]
+#[derive(Clone, Copy)]
 pub enum Answer {
     Reading { weight: Weight, spans: Spans },
     NoReading,

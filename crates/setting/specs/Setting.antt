@@ -7,7 +7,7 @@
 -- marker_of l          the marker of a label that is one: 0 to 5
 -- settles u ls        the markers of ls may all be taken, one after the other from setting u, and lead to all three shut
 -- begin K             the setting to begin in with K variables: those that are not used count as shut
-use Rattle.std.specs.Prelude.{◌≡◌, Bool, true, false, cond, ◌&&◌, List, [], ◌∷◌, ℕ, ◌+◌, ◌-◌, ◌*◌, ◌/◌, ◌%◌, ◌^◌, ◌<◌, ltb, eqb, length, get_or}
+use Rattle.std.specs.Prelude.{◌≡◌, Bool, false, cond, ◌&&◌, List, [], ◌∷◌, ℕ, ◌+◌, ◌-◌, ◌*◌, ◌/◌, ◌%◌, ◌^◌, ◌<◌, ltb, eqb, length, get_or}
 use Rattle.marks.specs.Labels.{Label, is_byte}
 
 abbrev pub digit_of : ℕ → ℕ → ℕ

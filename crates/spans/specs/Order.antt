@@ -2,7 +2,8 @@
 --
 -- lex_refl, lex_trans, lex_antisym, lex_total             the laws of Lex
 -- digit_same, digits_same                                 what is compared tells positions, and sets, apart
--- not_after_refl, -trans, -antisym, -total                the laws of NotAfter
+-- not_after_refl, not_after_trans,                       the laws of NotAfter
+-- not_after_antisym, not_after_total
 -- same_true, same_refl                                    same a b is true exactly when a is b
 use Rattle.std.specs.Prelude.{◌≡◌, refl, ◌⊎◌, true, List, [], ◌∷◌, ℕ, ◌<◌, eqb}
 use Rattle.std.proofs.Common.{ap₂, ◌∙◌, inl, inr, arith, eqb-true, eq-eqb}

@@ -1,10 +1,12 @@
 // A set of spans: six numbers, a start and an end for each of up to three variables (01, "Lines, spans, weights").
 // Decides number 9: whether six numbers are a set of spans of a line. A fixed number of comparisons.
+#![tactic(auto)]
+
 ghost use Rattle.std.specs.Prelude.{◌≡◌};
 ghost use Rattle.basics.specs.Decides.{Decides};
 ghost use Rattle.spans.specs.Spans.{SetOfSpans, Part};
 
-#[derive(Drop)]
+#[derive(Clone, Copy)]
 pub struct Spans {
     pub s1: u32,
     pub e1: u32,

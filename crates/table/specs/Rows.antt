@@ -9,12 +9,12 @@
 -- end_word        an end word is one of the words after the header
 -- end_right       an end word keeps the rule for end words
 -- end_light       an end word that is not the mark is at most 1,000,000
-use Rattle.std.specs.Prelude.{◌≡◌, refl, ◌⊎◌, List, [], ◌∷◌, ◌++◌, ℕ, zero, suc, ◌+◌, ◌*◌, ◌≤◌, ◌<◌, length, get_or}
-use Rattle.std.proofs.Common.{sym, ap, inl, inr, add-one, arith}
+use Rattle.std.specs.Prelude.{◌≡◌, refl, List, [], ◌∷◌, ◌++◌, ℕ, zero, suc, ◌+◌, ◌*◌, ◌≤◌, ◌<◌, length, get_or}
+use Rattle.std.proofs.Common.{ap, inl, inr, add-one, arith}
 use Rattle.basics.specs.Lists.{All, all_map, get_d_inside}
 use Rattle.weight.specs.Weight.{mark}
 use Rattle.table.specs.declared.Row.{Row}
-use Rattle.table.specs.Table.{row_of_words, rows_from, RightRow, RightEnd, RightTable, Automaton, automaton_of, most_weight}
+use Rattle.table.specs.Table.{row_of_words, rows_from, RightRow, RightEnd, RightTable, automaton_of, most_weight}
 
 pub rows_length : (ws : List ℕ) (at n : ℕ) → length (rows_from ws at n) ≡ n
 unfolding rows_from

@@ -10,7 +10,7 @@
 -- Automaton           its states, its variables, the start and the end word of each state, its rows
 -- automaton_of ws      the automaton that the words ws lay out: state 0 starts at 0, no other state starts
 -- label_of r           what a row does
-use Rattle.std.specs.Prelude.{◌≡◌, ◌⊎◌, Bool, true, false, cond, List, [], ◌∷◌, ℕ, zero, suc, ◌+◌, ◌*◌, ◌/◌, ◌%◌, ◌≤◌, ◌<◌, eqb, length, get_or}
+use Rattle.std.specs.Prelude.{◌≡◌, ◌⊎◌, cond, List, [], ◌∷◌, ℕ, zero, suc, ◌+◌, ◌*◌, ◌≤◌, ◌<◌, eqb, length, get_or}
 use Rattle.weight.specs.Weight.{mark}
 use Rattle.marks.specs.Labels.{Label, RightLabel}
 use Rattle.table.specs.declared.Row.{Row}

@@ -1,12 +1,14 @@
 // A table of states and rows, as 32-bit words (01, "The table"), and the check behind number 7.
 // The check looks once at each end word and once at each row; no stack to speak of.
+#![tactic(auto)]
+
 ghost use Rattle.std.specs.Prelude.{◌≡◌, ◌+◌, ◌*◌, ◌≤◌, length};
 ghost use Rattle.basics.specs.Decides.{Decides};
 ghost use Rattle.marks.specs.Labels.{RightLabel};
 ghost use Rattle.table.specs.Table.{row_of_words, RightRow, RightEnd, RightTable, most_states, most_rows};
 ghost use Rattle.table.specs.Check.{RightBytes, RightHeader, EndsRight, RowsRight};
 
-#[derive(Drop)]
+#[derive(Clone, Copy)]
 pub struct Row {
     pub from: u32,
     pub to: u32,

@@ -11,7 +11,7 @@
 -- rows_to_go bs u       how many rows a valid run has left: the bytes, and two for each variable untouched, one for each open
 -- kernel              the weight to go with that many rows left
 -- begun bytes u       where every run begins, with the setting u to begin in
-use Rattle.std.specs.Prelude.{◌≡◌, Bool, true, false, cond, ◌||◌, List, [], ◌∷◌, ℕ, zero, suc, ◌+◌, ◌-◌, ◌/◌, ◌%◌, eqb, ltb, length}
+use Rattle.std.specs.Prelude.{Bool, cond, ◌||◌, List, [], ◌∷◌, ℕ, ◌+◌, ◌-◌, ◌/◌, ◌%◌, eqb, ltb, length}
 use Rattle.std.proofs.Math.Option.{Option, none, some}
 use Rattle.weight.specs.Semiring.{Semi}
 use Rattle.weight.specs.Totals.{togo}

@@ -2,8 +2,8 @@
 --
 -- least cap       the semiring of numbers up to cap, which stands for "none"
 -- tropical        the one of weights, whose cap is the mark
-use Rattle.std.specs.Prelude.{◌≡◌, refl, ℕ, ◌+◌, min, ◌≤◌, ◌<◌}
-use Rattle.std.proofs.Common.{sym, ◌∙◌}
+use Rattle.std.specs.Prelude.{◌≡◌, ℕ, ◌+◌, min, ◌≤◌, ◌<◌}
+use Rattle.std.proofs.Common.{◌∙◌}
 use mathlib.Core.List.{List, [], ◌∷◌}
 use native.Mathlib.Omega.{arith}
 use Rattle.std.proofs.Math.Decide.{dec_le}
@@ -87,7 +87,7 @@ module _ (cap : ℕ) where
   sum_cap f [] = omega arith
   sum_cap f (x ∷ xs) = omega arith
 
-  pub sum_le : {A : Type 0} (f : A → ℕ) {xs : List A} {x : A} → In x xs → sum least f xs ≤ f x
+  pub sum_le : {A : Type 0} (f : A → ℕ) {x : A} {xs : List A} → In x xs → sum least f xs ≤ f x
   unfolding sum lighter_to
   sum_le f (first {l = l}) = omega arith
   sum_le f (later {l = l} m) = let h = sum_le f m in omega arith
