@@ -2,13 +2,13 @@
 # Lines a second by samples/ec.card, samples/ec.log again and again: the program `reading`,
 # RE2 and Python's `re` with the same captures, OpenFst's shortest distance:
 #   bench/lines.sh [PROGRAM]
-# PROGRAM is target/bin/reading if none is named (`rt check reading` builds it). Needs g++, RE2
-# and OpenFst (Debian: libre2-dev, libfst-dev). Each runs alone, from lines to printed answers in
-# one process. RE2 and `re` have no weights, OpenFst gives weights and no spans; what they do
-# give is compared with the program's. Nothing here is part of the gate.
+# PROGRAM is crates/reading/out/reading if none is named (`rt run` in crates/reading builds it).
+# Needs g++, RE2 and OpenFst (Debian: libre2-dev, libfst-dev). Each runs alone, from lines to
+# printed answers in one process. RE2 and `re` have no weights, OpenFst gives weights and no
+# spans; what they do give is compared with the program's. Nothing here is part of the gate.
 set -eu
 root=$(cd "$(dirname "$0")/.." && pwd)
-program=${1:-$root/target/bin/reading}
+program=${1:-$root/crates/reading/out/reading}
 work=$(mktemp -d)
 trap 'rm -rf "$work"' EXIT
 g++ -std=c++17 -O2 -o "$work/regex" "$root/bench/cpp/regex.cc" -lre2

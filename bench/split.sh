@@ -2,11 +2,11 @@
 # Times how the program `reading` handles its input, beside the same splitting in Rust, on a
 # card and lines of 2,000 bytes, which are all refused; then its memory on one line of 1 GB:
 #   bench/split.sh [PROGRAM]
-# PROGRAM is target/bin/reading if none is named (`rt check reading` builds it). Needs GNU
-# time and 300 MB of temporary files. Nothing here is part of the gate.
+# PROGRAM is crates/reading/out/reading if none is named (`rt run` in crates/reading builds it).
+# Needs GNU time and 300 MB of temporary files. Nothing here is part of the gate.
 set -eu
 root=$(cd "$(dirname "$0")/.." && pwd)
-program=${1:-$root/target/bin/reading}
+program=${1:-$root/crates/reading/out/reading}
 work=$(mktemp -d)
 trap 'rm -rf "$work"' EXIT
 rustc --edition 2021 -O -o "$work/split" "$root/bench/rust/split.rs"

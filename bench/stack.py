@@ -1,11 +1,11 @@
 # The least stack with which the program `reading` comes through, for some cards and lines:
 #   python3 bench/stack.py [PROGRAM]
-# PROGRAM is target/bin/reading if none is named. Linux only. What a run needs is found by trying
+# PROGRAM is crates/reading/out/reading if none is named. Linux only. What a run needs is found by trying
 # limits of the stack, in steps of a page; it includes the C library's and the loader's part.
 import pathlib, resource, subprocess, sys
 
 root = pathlib.Path(__file__).resolve().parents[1]
-program = sys.argv[1] if len(sys.argv) > 1 else root / "target/bin/reading"
+program = sys.argv[1] if len(sys.argv) > 1 else root / "crates/reading/out/reading"
 PAGE = 4096
 
 

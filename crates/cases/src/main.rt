@@ -1,31 +1,27 @@
-// Runs the program's work on each file that its arguments name: stored inputs, with the answers that 01 gives them in `stdout`.
+// Runs the program's work on each file that its arguments name: stored inputs, with their answers in `stdout`.
 // A line with the file's name stands before its answers.
-use libc::STDOUT_FILENO;
+#![tactic(auto)]
 
-fn run(path: &[u8]) {
-    io::write_all(STDOUT_FILENO, b"file=");
-    io::write_all(STDOUT_FILENO, path);
-    io::write_all(STDOUT_FILENO, b"\n");
-    let fd = os::open_read(path);
-    if fd < 0 {
-        os::fail(path);
-        return;
+use std::io::{Eprint, Print};
+use std::rt::Files;
+use std::{env, fs, io};
+
+// A file that cannot be opened is named on standard error, and has no answers.
+fn run<R: Files + Print + Eprint>(rt: &R, path: &str) -> io::Result<()> {
+    match fs::open(rt, path) {
+        Ok(mut file) => session::serve(&mut file, &mut io::writer(rt)),
+        Err(e) => eprintln!(rt; "{path}: {e}"),
     }
-    session::serve(fd, STDOUT_FILENO);
-    libc::close(fd);
 }
 
-fn case(i: usize) {
-    let mut path = io::buffer();
-    let n = os::arg(i, &mut path);
-    run(&path[..n]);
+fn case<R: Files + Print + Eprint>(rt: &R, path: &str) -> io::Result<()> {
+    println!(rt; "file={path}")?;
+    run(rt, path)
 }
 
-fn main() {
-    let count = os::arg_count();
-    let mut i = 1;
-    while i < count {
-        case(i);
-        i += 1;
+fn main(rt: HostRuntime) -> io::Result<()> {
+    for path in env::args(&rt)?.skip(1) {
+        case(&rt, path.as_str())?;
     }
+    Ok(())
 }

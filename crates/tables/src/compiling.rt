@@ -63,17 +63,14 @@ pub fn ask(text: &[u8], at: usize, room: &mut [u32], words: &mut [u32], bytes: &
     let b = numbers::words(text, pattern.next, 4, &mut head);
     let c = numbers::number(text, b.next);
     let table = numbers::words(text, c.next, c.value, words);
-    let from = 0;
-    let n = pattern.count;
-    let m = table.count;
     let most = numbers::least(numbers::size(head[0]), room.len());
     Asked {
         agrees: agrees(
             k.value,
-            &bytes[from..n],
-            &mut room[from..most],
+            &bytes[..pattern.count],
+            &mut room[..most],
             &head,
-            &words[from..m],
+            &words[..table.count],
         ),
         next: table.next,
     }

@@ -1,14 +1,18 @@
 // Runs stored questions on the library called directly: tables made by hand, sets that are none, rooms that are too small.
-// Each argument names a file of lines of decimal numbers. A line is a question and the answer that 01 gives it; its first number is
+// Each argument names a file of lines of decimal numbers. A line is a question and its answer; its first number is
 // 1 for a question to a table and 2 for one to the compiler. Prints how many were asked and how many answers differ, and the first of these.
+#![tactic(auto)]
+
 mod compiling;
 mod numbers;
 mod reading;
 
-ghost use Rattle.std.specs.Prelude.{◌≡◌, ◌+◌, ◌≤◌, ◌<◌, length};
+ghost use Rattle.std.specs.Prelude.{◌≡◌, ◌+◌, ◌≤◌, ◌<◌, length, IfOk};
 
-use libc::STDOUT_FILENO;
 use numbers::Asked;
+use std::io::{Eprint, Print, Read};
+use std::rt::Files;
+use std::{env, fs, io};
 
 const MOST_QUESTIONS: u32 = 1000000;
 
@@ -44,38 +48,50 @@ fn wide(x: u32) -> u64 {
     x as u64
 }
 
-fn print(key: &[u8], n: u32) {
-    io::write_all(STDOUT_FILENO, key);
-    io::print_decimal(STDOUT_FILENO, wide(n));
-    io::write_all(STDOUT_FILENO, b"\n");
+fn print(rt: &impl Print, key: &str, n: u32) -> io::Result<()> {
+    let number = wide(n);
+    println!(rt; "{key}{number}")
 }
 
 // Asks the question that stands at `t.at`; the first that differ are printed by their number.
-fn count(text: &[u8], t: Tally, room: &mut [u32], words: &mut [u32], bytes: &mut [u8]) -> Tally
+fn count(
+    rt: &impl Print,
+    text: &[u8],
+    t: Tally,
+    room: &mut [u32],
+    words: &mut [u32],
+    bytes: &mut [u8],
+) -> io::Result<Tally>
     requires { (t.at ≤ length text.now) × (t.asked < 1000000) × (t.differ ≤ t.asked) }
-    ensures { (result.at ≤ length text.now) × (result.asked ≡ t.asked + 1) × (result.differ ≤ result.asked) }
+    ensures { IfOk result (λ u. (u.at ≤ length text.now) × (u.asked ≡ t.asked + 1) × (u.differ ≤ u.asked)) }
 {
     let at = t.at;
     let asked = t.asked + 1;
     let a = ask(text, at, room, words, bytes);
     if a.agrees {
-        return Tally {
+        return Ok(Tally {
             at: a.next,
             asked,
             differ: t.differ,
-        };
+        });
     }
     if t.differ < MOST_SHOWN {
-        print(b"differs=", asked);
+        print(rt, "differs=", asked)?;
     }
-    Tally {
+    Ok(Tally {
         at: a.next,
         asked,
         differ: t.differ + 1,
-    }
+    })
 }
 
-fn ask_all(text: &[u8], room: &mut [u32], words: &mut [u32], bytes: &mut [u8]) -> Tally {
+fn ask_all(
+    rt: &impl Print,
+    text: &[u8],
+    room: &mut [u32],
+    words: &mut [u32],
+    bytes: &mut [u8],
+) -> io::Result<Tally> {
     let mut t = Tally {
         at: 0,
         asked: 0,
@@ -83,44 +99,52 @@ fn ask_all(text: &[u8], room: &mut [u32], words: &mut [u32], bytes: &mut [u8]) -
     };
     while t.at < text.len() {
         if MOST_QUESTIONS <= t.asked {
-            return t;
+            return Ok(t);
         }
-        t = count(text, t, room, words, bytes);
+        t = count(rt, text, t, room, words, bytes)?;
     }
-    t
+    Ok(t)
 }
 
-fn run(path: &[u8]) {
-    let fd = os::open_read(path);
-    if fd < 0 {
-        os::fail(path);
-        return;
+// Reads until the buffer is full or the input is at its end, and returns how many bytes it put at the start of the buffer.
+fn read_full<R: Read>(from: &mut R, buf: &mut [u8]) -> io::Result<usize>
+    ensures { IfOk result (λ n. n ≤ length buf.new) }
+{
+    let mut done = 0;
+    while done < buf.len() {
+        let n = from.read(&mut buf[done..])?;
+        if n == 0 {
+            break;
+        }
+        done += n;
     }
+    Ok(done)
+}
+
+// A file that cannot be opened is named on standard error, and asks nothing.
+fn run<R: Files + Print + Eprint>(rt: &R, path: &str) -> io::Result<()> {
+    let mut file = match fs::open(rt, path) {
+        Ok(file) => file,
+        Err(e) => return eprintln!(rt; "{path}: {e}"),
+    };
     let mut text = space();
     let mut room = [0u32; 5000];
     let mut words = [0u32; 5000];
     let mut bytes = [0u8; 2000];
-    let n = io::read_full(fd, &mut text);
-    libc::close(fd);
-    let t = ask_all(&text[..n], &mut room, &mut words, &mut bytes);
-    print(b"asked=", t.asked);
-    print(b"differ=", t.differ);
+    let n = read_full(&mut file, &mut text)?;
+    let t = ask_all(rt, &text[..n], &mut room, &mut words, &mut bytes)?;
+    print(rt, "asked=", t.asked)?;
+    print(rt, "differ=", t.differ)
 }
 
-fn case(i: usize) {
-    let mut path = io::buffer();
-    let n = os::arg(i, &mut path);
-    io::write_all(STDOUT_FILENO, b"file=");
-    io::write_all(STDOUT_FILENO, &path[..n]);
-    io::write_all(STDOUT_FILENO, b"\n");
-    run(&path[..n]);
+fn case<R: Files + Print + Eprint>(rt: &R, path: &str) -> io::Result<()> {
+    println!(rt; "file={path}")?;
+    run(rt, path)
 }
 
-fn main() {
-    let count = os::arg_count();
-    let mut i = 1;
-    while i < count {
-        case(i);
-        i += 1;
+fn main(rt: HostRuntime) -> io::Result<()> {
+    for path in env::args(&rt)?.skip(1) {
+        case(&rt, path.as_str())?;
     }
+    Ok(())
 }

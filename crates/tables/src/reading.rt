@@ -69,11 +69,8 @@ pub fn ask(text: &[u8], at: usize, words: &mut [u32], bytes: &mut [u8]) -> Asked
     let b = numbers::number(text, table.next);
     let line = numbers::bytes(text, b.next, b.value, bytes);
     let c = numbers::words(text, line.next, 18, &mut rest);
-    let from = 0;
-    let n = table.count;
-    let m = line.count;
     Asked {
-        agrees: agrees(&words[from..n], &bytes[from..m], &rest),
+        agrees: agrees(&words[..table.count], &bytes[..line.count], &rest),
         next: c.next,
     }
 }

@@ -1,5 +1,7 @@
 // The reader as bench/ calls it: a table as bytes, four to a word, low byte first. Not for users: the gateway's own functions come
 // with their request. Takes 20 KB of stack for the words besides the reader's.
+#![tactic(auto)]
+
 ghost use Rattle.std.specs.Prelude.{◌+◌, ◌*◌, ◌≤◌, ◌<◌, length};
 
 use reader::Answer;
@@ -41,8 +43,7 @@ fn words(bytes: &[u8], room: &mut [u32]) {
 }
 
 // The weight of the best reading; 2^32 for no reading, and 2^33 for a refusal.
-#[unsafe(no_mangle)]
-pub extern "C" fn bench_best(table: &[u8], line: &[u8]) -> u64 {
+pub fn bench_best(table: &[u8], line: &[u8]) -> u64 {
     let mut room = [0u32; WORDS];
     words(table, &mut room);
     match reader::best_reading(&room, line) {
