@@ -1,7 +1,7 @@
 #!/usr/bin/env python3
 """Brings the definitions and lemmas of this repository to the spelling of today's Rattle: words in snake case.
 
-usage: python3 tools/respell.py            at the top, once, after /opt/rattle/port/port.py
+usage: python3 tools/respell.py            at the top, once, after the kit's port.py
        python3 tools/respell.py --say      only prints what would be renamed, and which names fall together
 
 In specs/, proofs/*.antt and the clauses of src/ each name with a hyphen gets underscores, and each name in camel case that
