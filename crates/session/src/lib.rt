@@ -5,7 +5,7 @@
 
 ghost use Rattle.std.specs.Prelude.{◌≡◌, true, ◌≤◌, ◌<◌, length, take, IfOk, OnErr, OnOk};
 ghost use Rattle.std.specs.Io.KnownBytes.{Appends};
-ghost use Rattle.session.specs.State.{Fits, Flushed};
+ghost use Rattle.session.specs.State.{Fits, Flushed, SameRoom};
 
 use card::Form;
 use compiler::Compiled;
@@ -44,7 +44,8 @@ fn goes_on(s: State) -> bool
     }
 }
 
-// Writes what is printed. Where that fails nobody reads it any more, and the run ends with the error.
+// Writes what is printed. Where that fails nobody reads it any more, and the run ends with the error. It leaves what waits as it was;
+// how much of it the writer has taken, std does not say.
 fn flush<W: Write>(s: State, out: &[u8], to: &mut W) -> io::Result<State>
     requires { s.out ≤ length out.now }
     ensures flushed { IfOk result (λ t. Flushed s t) }
@@ -207,7 +208,7 @@ fn rest(s: State, piece: &[u8], at: usize, held: &mut [u8]) -> State
     }
 }
 
-// One piece of input, line by line.
+// One piece of input, line by line. An error leaves the buffers as long as they were, with what was put into them so far.
 fn feed<W: Write>(
     s: State,
     piece: &[u8],
@@ -218,7 +219,8 @@ fn feed<W: Write>(
 ) -> io::Result<State>
     requires fits { Fits s (length held.old) (length out.old) }
     requires in_bounds { (1 < length room.old) × (0 < length held.old) }
-    ensures { IfOk result (λ t. Fits t (length held.old) (length out.old)) }
+    ensures answered { IfOk result (λ t. Fits t (length held.old) (length out.old)) }
+    ensures failed { OnErr result (SameRoom held.old held.new room.old room.new out.old out.new) }
 {
     let mut t = s;
     let mut at = 0;
@@ -256,7 +258,7 @@ fn finish<W: Write>(
     answer(s, &held[..n], room, out, to)
 }
 
-// Waits for input once: a piece of it, or its end.
+// Waits for input once: a piece of it, or its end. The error of a read or a write is handed back, and no other comes.
 fn turn<R: Read, W: Write>(
     s: State,
     from: &mut R,
@@ -268,7 +270,8 @@ fn turn<R: Read, W: Write>(
 ) -> io::Result<State>
     requires fits { Fits s (length held.old) (length out.old) }
     requires in_bounds { (1 < length room.old) × (0 < length held.old) × (s.lines < 1000000) }
-    ensures { IfOk result (λ t. Fits t (length held.old) (length out.old)) }
+    ensures answered { IfOk result (λ t. Fits t (length held.old) (length out.old)) }
+    ensures failed { OnErr result (SameRoom held.old held.new room.old room.new out.old out.new) }
 {
     let n = from.read(piece)?;
     if n == 0 {
