@@ -7,12 +7,13 @@ mod compiling;
 mod numbers;
 mod reading;
 
-ghost use Rattle.std.specs.Prelude.{◌≡◌, ◌+◌, ◌≤◌, ◌<◌, length, IfOk};
+ghost use Rattle.std.specs.Prelude.{◌≡◌, ◌+◌, ◌≤◌, ◌<◌, length, IfOk, OnErr};
 
 use numbers::Asked;
-use std::io::{Eprint, Print, Read};
-use std::rt::Files;
-use std::{env, fs, io};
+use std::env::FillError;
+use std::io;
+use std::io::{Print, Read};
+use std::rt::{Env, Files};
 
 const MOST_QUESTIONS: u32 = 1000000;
 
@@ -63,7 +64,9 @@ fn count(
     bytes: &mut [u8],
 ) -> io::Result<Tally>
     requires { (t.at ≤ length text.now) × (t.asked < 1000000) × (t.differ ≤ t.asked) }
-    ensures { IfOk result (λ u. (u.at ≤ length text.now) × (u.asked ≡ t.asked + 1) × (u.differ ≤ u.asked)) }
+    ensures answered { IfOk result (λ u. (u.at ≤ length text.now) × (u.asked ≡ t.asked + 1) × (u.differ ≤ u.asked)) }
+    ensures failed { OnErr result
+        ((length room.new ≡ length room.old) × (length words.new ≡ length words.old) × (length bytes.new ≡ length bytes.old)) }
 {
     let at = t.at;
     let asked = t.asked + 1;
@@ -91,7 +94,10 @@ fn ask_all(
     room: &mut [u32],
     words: &mut [u32],
     bytes: &mut [u8],
-) -> io::Result<Tally> {
+) -> io::Result<Tally>
+    ensures failed { OnErr result
+        ((length room.new ≡ length room.old) × (length words.new ≡ length words.old) × (length bytes.new ≡ length bytes.old)) }
+{
     let mut t = Tally {
         at: 0,
         asked: 0,
@@ -108,7 +114,8 @@ fn ask_all(
 
 // Reads until the buffer is full or the input is at its end, and returns how many bytes it put at the start of the buffer.
 fn read_full<R: Read>(from: &mut R, buf: &mut [u8]) -> io::Result<usize>
-    ensures { IfOk result (λ n. n ≤ length buf.new) }
+    ensures filled { IfOk result (λ n. n ≤ length buf.new) }
+    ensures failed { OnErr result (length buf.new ≡ length buf.old) }
 {
     let mut done = 0;
     while done < buf.len() {
@@ -122,10 +129,10 @@ fn read_full<R: Read>(from: &mut R, buf: &mut [u8]) -> io::Result<usize>
 }
 
 // A file that cannot be opened is named on standard error, and asks nothing.
-fn run<R: Files + Print + Eprint>(rt: &R, path: &str) -> io::Result<()> {
-    let mut file = match fs::open(rt, path) {
+fn run<R: Files + Print, E: Print>(rt: &R, errors: &E, path: &[u8]) -> io::Result<()> {
+    let mut file = match files::open(rt, path) {
         Ok(file) => file,
-        Err(e) => return eprintln!(rt; "{path}: {e}"),
+        Err(e) => return files::refuse(errors, path, &e),
     };
     let mut text = space();
     let mut room = [0u32; 5000];
@@ -137,14 +144,20 @@ fn run<R: Files + Print + Eprint>(rt: &R, path: &str) -> io::Result<()> {
     print(rt, "differ=", t.differ)
 }
 
-fn case<R: Files + Print + Eprint>(rt: &R, path: &str) -> io::Result<()> {
-    println!(rt; "file={path}")?;
-    run(rt, path)
+fn case<R: Files + Print, E: Print>(rt: &R, errors: &E, path: &[u8]) -> io::Result<()> {
+    files::announce(rt, path)?;
+    run(rt, errors, path)
 }
 
 fn main(rt: HostRuntime) -> io::Result<()> {
-    for path in env::args(&rt)?.skip(1) {
-        case(&rt, path.as_str())?;
+    let errors = rt.stderr();
+    let mut path = [0u8; files::LONGEST];
+    for i in 1..usize::MAX {
+        match rt.arg(i, &mut path) {
+            Ok(n) => case(&rt, &errors, &path[..n])?,
+            Err(FillError::TooLong) => case(&rt, &errors, b"")?,
+            Err(FillError::NotPresent) => break,
+        }
     }
     Ok(())
 }
