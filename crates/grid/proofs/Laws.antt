@@ -2,60 +2,17 @@
 --
 -- Done f old n now    n cells done, each by the rule f, the others as they were
 use mathlib.Core.Path.{◌≡◌, refl, ap, ap₂, ◌∙◌}
-use mathlib.Core.Bool.{cond}
 use mathlib.Core.List.{List}
 use Prim.Native.Nat.{ℕ, ◌+◌, ◌*◌, ◌/◌, ◌%◌, ◌≤◌, ◌<◌, min}
 use native.Mathlib.Omega.{arith}
 use native.Mathlib.Decide.{ℕ_discrete, dec_lt}
 use lib.ListN.{length, get_or, set, length-set}
 use lib.Seq.{get_or-set_same, get_or-set_other}
-use lib.Dec.{leb, ltb, eqb}
-use borrow.Author.Tests.{lt-ltb, le-ltb, le-leb, lt-leb, eq-eqb, ne_eqb}
+use lib.Dec.{leb, ltb}
+use borrow.Author.Tests.{le-leb}
 use Rattle.weight.specs.Weight.{lighter, joint, mark, lighter_to, joint_to}
 use Rattle.grid.specs.Grow.{flat}
-use Rattle.grid.specs.Cells.{bridge, extra, Leafed}
-
-module _ (l : List ℕ) (lo hi next i : ℕ) where
-  pub before_lo : i / 32 ≤ lo → mark ≡ bridge l lo hi next i
-  unfolding bridge
-  before_lo h = rw (le-leb (i / 32) lo h)
-
-  pub after_hi : lo < i / 32 → hi < i / 32 → mark ≡ bridge l lo hi next i
-  unfolding bridge
-  after_hi h k = rw (lt-leb (i / 32) lo h, lt-ltb hi (i / 32) k)
-
-  pub before_next : lo < i / 32 → i / 32 ≤ hi → i % 32 ≤ next → mark ≡ bridge l lo hi next i
-  unfolding bridge
-  before_next h k m = rw (lt-leb (i / 32) lo h, le-ltb hi (i / 32) k, le-leb (i % 32) next m)
-
-  pub across : lo < i / 32 → i / 32 ≤ hi → next < i % 32 → joint (get_or l (i / 32 * 32) 0) (get_or l (i % 32) 0) ≡ bridge l lo hi next i
-  unfolding bridge
-  across h k m = rw (lt-leb (i / 32) lo h, le-ltb hi (i / 32) k, lt-leb (i % 32) next m)
-
-module _ (lo hi ending next beginning i : ℕ) where
-  pub ends_lo : i % 32 ≡ 0 → i / 32 ≤ lo → 0 ≡ extra lo hi ending next beginning i
-  unfolding extra
-  ends_lo e h = rw (eq-eqb (i % 32) 0 e, le-leb (i / 32) lo h)
-
-  pub ends_hi : i % 32 ≡ 0 → lo < i / 32 → hi < i / 32 → 0 ≡ extra lo hi ending next beginning i
-  unfolding extra
-  ends_hi e h k = rw (eq-eqb (i % 32) 0 e, lt-leb (i / 32) lo h, lt-ltb hi (i / 32) k)
-
-  pub ends_in : i % 32 ≡ 0 → lo < i / 32 → i / 32 ≤ hi → ending ≡ extra lo hi ending next beginning i
-  unfolding extra
-  ends_in e h k = rw (eq-eqb (i % 32) 0 e, lt-leb (i / 32) lo h, le-ltb hi (i / 32) k)
-
-  pub begins_out : (i % 32 ≡ 0 → ⊥) → i / 32 ≡ 0 → i % 32 ≤ next → 0 ≡ extra lo hi ending next beginning i
-  unfolding extra
-  begins_out e h k = rw (ne_eqb (i % 32) 0 e, eq-eqb (i / 32) 0 h, le-leb (i % 32) next k)
-
-  pub begins_in : (i % 32 ≡ 0 → ⊥) → i / 32 ≡ 0 → next < i % 32 → beginning ≡ extra lo hi ending next beginning i
-  unfolding extra
-  begins_in e h k = rw (ne_eqb (i % 32) 0 e, eq-eqb (i / 32) 0 h, lt-leb (i % 32) next k)
-
-  pub inner : (i % 32 ≡ 0 → ⊥) → (i / 32 ≡ 0 → ⊥) → 0 ≡ extra lo hi ending next beginning i
-  unfolding extra
-  inner e h = rw (ne_eqb (i % 32) 0 e, ne_eqb (i / 32) 0 h)
+use Rattle.grid.specs.Cells.{bridge, extra}
 
 -- the cells of the first row and the first column are bridged by nothing
 edge_column : (l : List ℕ) (lo hi next k : ℕ) → k % 32 ≡ 0 → bridge l lo hi next k ≡ mark
@@ -73,16 +30,15 @@ bridge_same l m lo hi next i e f =
     rw g
 
 pub record Done (f : ℕ → ℕ) (old : List ℕ) (n : ℕ) (now : List ℕ) : Type 0 where
-  pub within : n ≤ 1024
   pub long : length now ≡ length old
   pub done : (k : ℕ) → k < n → get_or now k 0 ≡ f k
   pub left : (k : ℕ) → n ≤ k → get_or now k 0 ≡ get_or old k 0
 
 pub done_none : (f : ℕ → ℕ) (old : List ℕ) → Done f old 0 old
-done_none f old = record { within = omega arith; long = refl; done = λ k h. absurd (omega arith); left = λ k h. refl }
+done_none f old = record { long = refl; done = λ k h. absurd (omega arith); left = λ k h. refl }
 
 pub done_more : (f : ℕ → ℕ) (old : List ℕ) (n : ℕ) (now : List ℕ) (v : ℕ) → 1024 ≤ length old → n < 1024 → v ≡ f n → Done f old n now → Done f old (n + 1) (set now n v)
-done_more f old n now v l h e d = record { within = omega arith; long = length-set now n v ∙ d.long; done = λ k b. at k b (ℕ_discrete k n); left = λ k b. get_or-set_other now n k v 0 (omega arith) ∙ d.left k (omega arith) }
+done_more f old n now v l h e d = record { long = length-set now n v ∙ d.long; done = λ k b. at k b (ℕ_discrete k n); left = λ k b. get_or-set_other now n k v 0 (omega arith) ∙ d.left k (omega arith) }
   where
     at : (k : ℕ) → k < n + 1 → Dec (k ≡ n) → get_or (set now n v) k 0 ≡ f k
     at k b (yes i) = rw i (get_or-set_same now n v 0 (omega (arith, d.long)) ∙ e)
@@ -101,14 +57,3 @@ link_next lo hi next old n now d = ap₂ lighter (d.left n (omega arith)) (bridg
 
 abbrev pub raise_rule : ℕ → ℕ → ℕ → ℕ → ℕ → List ℕ → ℕ → ℕ
 raise_rule lo hi ending next beginning old k = joint (get_or old k 0) (extra lo hi ending next beginning k)
-
-pub done_all : (f : ℕ → ℕ) (old : List ℕ) (n : ℕ) (now : List ℕ) → 1024 ≤ n → Done f old n now → (k : ℕ) → k < 1024 → get_or now k 0 ≡ f k
-done_all f old n now h d k l = d.done k (omega arith)
-
-pub leafed : (o : ℕ) (l : List ℕ) → (o + 1) * 32 < length l → Leafed o l (set (set l ((o + 1) * 32) 0) (o + 1) 0)
-leafed o l h = record { cell = λ i. go i (ℕ_discrete i (o + 1)) (ℕ_discrete i ((o + 1) * 32)) }
-  where
-    go : (i : ℕ) → Dec (i ≡ o + 1) → Dec (i ≡ (o + 1) * 32) → get_or (set (set l ((o + 1) * 32) 0) (o + 1) 0) i 0 ≡ cond (eqb i (o + 1)) 0 (cond (eqb i ((o + 1) * 32)) 0 (get_or l i 0))
-    go i (yes e) g = rw (eq-eqb i (o + 1) e, e) (get_or-set_same (set l ((o + 1) * 32) 0) (o + 1) 0 0 (simp length-set (omega arith)))
-    go i (no e) (yes g) = rw (ne_eqb i (o + 1) e, eq-eqb i ((o + 1) * 32) g) (get_or-set_other (set l ((o + 1) * 32) 0) (o + 1) i 0 0 e ∙ ap (λ (z : ℕ). get_or (set l ((o + 1) * 32) 0) z 0) g ∙ get_or-set_same l ((o + 1) * 32) 0 0 h)
-    go i (no e) (no g) = rw (ne_eqb i (o + 1) e, ne_eqb i ((o + 1) * 32) g) (get_or-set_other (set l ((o + 1) * 32) 0) (o + 1) i 0 0 e ∙ get_or-set_other l ((o + 1) * 32) i 0 0 g)

@@ -1,6 +1,7 @@
 // The arcs of a pattern as 32 × 32 words, built in place while the text is read (01, "The pattern on the card"): from x to y at
 // x × 32 + y, the mark where there is none. A part's weight for no step is handed on apart, so the word at 0 waits for the end.
 // leaf writes two words; clear, link and raise pass over 1,024, whatever the text. No stack to speak of.
+// The public functions promise the same of any slice of 1,024 words or more: an array type would ask more of their callers.
 #![tactic(auto)]
 
 ghost use Rattle.std.specs.Prelude.{◌≡◌, ◌+◌, ◌*◌, ◌≤◌, ◌<◌, length};
@@ -9,6 +10,17 @@ ghost use Rattle.grid.specs.Cells.{bridge, extra, Cleared, Leafed, Linked, Raise
 
 use weight::Weight;
 
+// The states, the last of them, and the arcs from each to each.
+const STATES: usize = 32;
+
+const LAST: usize = STATES - 1;
+
+const CELLS: usize = STATES * STATES;
+
+// The mark, which is a weight and no flag: `lighter` and `sum` go on with it.
+const NO_ARC: u32 = Weight::MARK.number;
+
+// Of two words: the cells are lent as words, and a `Weight` around each at every use would be no plainer.
 pub fn lighter(a: u32, b: u32) -> u32
     ensures { result ≡ lighter a b }
 {
@@ -26,30 +38,49 @@ pub fn clear(cells: &mut [u32])
     requires { 1024 ≤ length cells.old }
     ensures { Cleared cells.new }
 {
-    let mut i = 0;
-    while i < 1024 {
-        cells[i] = 4294967295;
-        i += 1;
-    }
+    cells[..CELLS].fill(NO_ARC);
 }
 
-// What the cell i gets by way of an end and a beginning.
-fn bridge(cells: &[u32], i: usize, lo: usize, hi: usize, next: usize) -> u32
-    requires { (i < 1024) × (1024 ≤ length cells.now) }
-    ensures { result ≡ bridge cells.now lo hi next i }
-{
-    let x = i / 32;
-    let y = i % 32;
-    if x <= lo {
-        return 4294967295;
+// Where one part meets the next: the steps after lo up to hi may be followed by those after next.
+#[derive(Clone, Copy)]
+struct Seam {
+    lo: usize,
+    hi: usize,
+    next: usize,
+}
+
+impl Seam {
+    // What the cell i gets by way of an end and a beginning.
+    #[tactic(auto, using(std::proofs::lemmas::Bool::Decides::nat_tests), unfolding(crate::specs::Cells::bridge))]
+    #[inline]
+    fn bridge(self, cells: &[u32], i: usize) -> u32
+        requires { (i < 1024) × (1024 ≤ length cells.now) }
+        ensures { result ≡ bridge cells.now self.lo self.hi self.next i }
+    {
+        let x = i / STATES;
+        let y = i % STATES;
+        if x <= self.lo || self.hi < x || y <= self.next {
+            return NO_ARC;
+        }
+        sum(cells[x * STATES], cells[y])
     }
-    if hi < x {
-        return 4294967295;
+
+    // What is charged more: at the ends of the steps after lo up to hi, and at the beginnings of those after next.
+    #[tactic(auto, using(std::proofs::lemmas::Bool::Decides::nat_tests), unfolding(crate::specs::Cells::extra))]
+    #[inline]
+    fn extra(self, i: usize, ending: u32, beginning: u32) -> u32
+        ensures { result ≡ extra self.lo self.hi ending self.next beginning i }
+    {
+        let x = i / STATES;
+        let y = i % STATES;
+        if y == 0 && self.lo < x && x <= self.hi {
+            return ending;
+        }
+        if x == 0 && self.next < y {
+            return beginning;
+        }
+        0
     }
-    if y <= next {
-        return 4294967295;
-    }
-    sum(cells[x * 32], cells[y])
 }
 
 // From each step after lo up to hi to each step after next.
@@ -57,45 +88,19 @@ pub fn link(cells: &mut [u32], lo: usize, hi: usize, next: usize)
     requires { 1024 ≤ length cells.old }
     ensures { Linked lo hi next cells.old cells.new }
 {
-    let mut i = 0;
-    while i < 1024 {
-        cells[i] = lighter(cells[i], bridge(cells, i, lo, hi, next));
-        i += 1;
+    let seam = Seam { lo, hi, next };
+    for i in 0..CELLS {
+        cells[i] = lighter(cells[i], seam.bridge(cells, i));
     }
-}
-
-// What is charged more: at the ends of the steps after lo up to hi, and at the beginnings of those after next.
-fn extra(i: usize, lo: usize, hi: usize, ending: u32, next: usize, beginning: u32) -> u32
-    ensures { result ≡ extra lo hi ending next beginning i }
-{
-    let x = i / 32;
-    let y = i % 32;
-    if y == 0 {
-        if x <= lo {
-            return 0;
-        }
-        if hi < x {
-            return 0;
-        }
-        return ending;
-    }
-    if x == 0 {
-        if y <= next {
-            return 0;
-        }
-        return beginning;
-    }
-    0
 }
 
 pub fn raise(cells: &mut [u32], lo: usize, hi: usize, ending: u32, next: usize, beginning: u32)
     requires { 1024 ≤ length cells.old }
     ensures { Raised lo hi ending next beginning cells.old cells.new }
 {
-    let mut i = 0;
-    while i < 1024 {
-        cells[i] = sum(cells[i], extra(i, lo, hi, ending, next, beginning));
-        i += 1;
+    let seam = Seam { lo, hi, next };
+    for i in 0..CELLS {
+        cells[i] = sum(cells[i], seam.extra(i, ending, beginning));
     }
 }
 
@@ -114,7 +119,7 @@ pub fn again(cells: &mut [u32], o: usize) -> u32
     requires { 1024 ≤ length cells.old }
     ensures { (result ≡ 0) × Linked o 31 o cells.old cells.new }
 {
-    link(cells, o, 31, o);
+    link(cells, o, LAST, o);
     0
 }
 
@@ -123,7 +128,7 @@ pub fn leaf(cells: &mut [u32], o: usize) -> u32
     requires { (o < 31) × (1024 ≤ length cells.old) }
     ensures { (result ≡ mark) × Leafed o cells.old cells.new }
 {
-    cells[(o + 1) * 32] = 0;
+    cells[(o + 1) * STATES] = 0;
     cells[o + 1] = 0;
-    4294967295
+    NO_ARC
 }

@@ -20,7 +20,8 @@ use Rattle.table.specs.declared.Row.{Row}
 use Rattle.table.specs.Table.{label_of}
 use Rattle.togo.specs.ToGo.{marker}
 use Rattle.togo.specs.Price.{base, cap}
-use Rattle.layer.specs.Layer.{Cells, cells, carries, shut, Closed}
+use Rattle.layer.specs.declared.cells.Layer.{Layer}
+use Rattle.layer.specs.Layer.{Cells, held, cells, carries, shut, Closed}
 use Rattle.layer.specs.Parts.{Taken, OneClosed, ClosedAt}
 use Rattle.layer.proofs.Grid.{cell_low, dead, lighter_cap, taken_other, taken_same, sum_snoc}
 
@@ -57,32 +58,32 @@ module _ (ts : List ℕ) (l : Cells) (q u : ℕ) (r : Row) where
       none_either true = joint_cap cap _
       none_either false = refl
 
-module _ (ts : List ℕ) (r : Row) (u : ℕ) (nw nk : List ℕ) where
-  skip : ((q : ℕ) → carries ts (cells nw nk) q u r ≡ cap) → OneClosed ts r u (cells nw nk) (cells nw nk)
-  skip h = record { here = λ q. rw (h q) (sym (lighter_cap _ (cell_low nw nk q u))); there = λ q w a d. refl }
+module _ (ts : List ℕ) (r : Row) (u : ℕ) (new : Layer) where
+  skip : ((q : ℕ) → carries ts (cells new) q u r ≡ cap) → OneClosed ts r u (cells new) (cells new)
+  skip h = record { here = λ q. rw (h q) (sym (lighter_cap _ (cell_low new q u))); there = λ q w a d. refl }
 
-  pub one_out : (d : ℕ) → d ≡ move_of u (marker r) → 27 ≤ d → OneClosed ts r u (cells nw nk) (cells nw nk)
-  one_out d e h = skip (λ q. carries_out ts (cells nw nk) q u r (rw e at h))
+  pub one_out : (d : ℕ) → d ≡ move_of u (marker r) → 27 ≤ d → OneClosed ts r u (cells new) (cells new)
+  one_out d e h = skip (λ q. carries_out ts (cells new) q u r (rw e at h))
 
-  pub one_dead : (t d : ℕ) → t ≡ r.to → d ≡ move_of u (marker r) → get_or nw (t * 27 + d) 0 ≡ mark → OneClosed ts r u (cells nw nk) (cells nw nk)
-  one_dead t d et ed e = skip (λ q. carries_dead ts (cells nw nk) q u r (dead nw nk r.to (move_of u (marker r)) (rw (et, ed) at e)))
+  pub one_dead : (d w k : ℕ) → d ≡ move_of u (marker r) → w * base + k ≡ held new (r.to * 27 + d) → w ≡ mark → OneClosed ts r u (cells new) (cells new)
+  one_dead d w k ed ef e = skip (λ q. carries_dead ts (cells new) q u r (dead new r.to (move_of u (marker r)) w k (rw ed at ef) e))
 
-  pub one_shut : (m : ℕ) → m ≡ marker r → get_or ts m 0 ≡ shut → OneClosed ts r u (cells nw nk) (cells nw nk)
-  one_shut m e h = skip (λ q. carries_shut ts (cells nw nk) q u r (rw e at h))
+  pub one_shut : (m : ℕ) → m ≡ marker r → get_or ts m 0 ≡ shut → OneClosed ts r u (cells new) (cells new)
+  one_shut m e h = skip (λ q. carries_shut ts (cells new) q u r (rw e at h))
 
-  module _ (z : r.kind ≡ 0 → ⊥) (h : move_of u (marker r) < 27) (a : get_or ts (marker r) 0 < shut) (hu : u < 27) (lw lk : List ℕ)
-      (t : Taken (joint_to cap (r.weight * base + get_or ts (marker r) 0) (get_or nw (r.to * 27 + move_of u (marker r)) 0 * base + get_or nk (r.to * 27 + move_of u (marker r)) 0)) (r.from * 27 + u) nw nk lw lk) where
-    at_q : (q : ℕ) → Dec (r.from ≡ q) → cells lw lk q u ≡ lighter_to cap (cells nw nk q u) (carries ts (cells nw nk) q u r)
+  module _ (z : r.kind ≡ 0 → ⊥) (h : move_of u (marker r) < 27) (a : get_or ts (marker r) 0 < shut) (hu : u < 27) (last : Layer) (far : ℕ) (ef : far ≡ held new (r.to * 27 + move_of u (marker r)))
+      (t : Taken (joint_to cap (r.weight * base + get_or ts (marker r) 0) far) (r.from * 27 + u) new last) where
+    at_q : (q : ℕ) → Dec (r.from ≡ q) → cells last q u ≡ lighter_to cap (cells new q u) (carries ts (cells new) q u r)
     unfolding carries
     at_q q (yes s) =
         rw (ne_eqb _ _ z, lt-ltb _ _ h, lt-ltb _ _ a, eq-eqb _ _ s, ← s)
-        (taken_same nw nk lw lk r.from u _ t nw nk r.to (move_of u (marker r)) (r.weight * base + get_or ts (marker r) 0) refl)
+        (taken_same new last r.from u _ t new r.to (move_of u (marker r)) (r.weight * base + get_or ts (marker r) 0) (ap (joint_to cap (r.weight * base + get_or ts (marker r) 0)) ef))
     at_q q (no s) =
         rw (ne_eqb _ _ z, lt-ltb _ _ h, lt-ltb _ _ a, ne_eqb _ _ s)
-        (taken_other nw nk lw lk r.from u _ t hu q u hu (λ e f. s (sym e)) ∙ sym (lighter_cap _ (cell_low nw nk q u)))
+        (taken_other new last r.from u _ t hu q u hu (λ e f. s (sym e)) ∙ sym (lighter_cap _ (cell_low new q u)))
 
-    pub one_write : OneClosed ts r u (cells nw nk) (cells lw lk)
-    one_write = record { here = λ q. at_q q (ℕ_discrete r.from q); there = λ q v b d. taken_other nw nk lw lk r.from u _ t hu q v b (λ e f. d f) }
+    pub one_write : OneClosed ts r u (cells new) (cells last)
+    one_write = record { here = λ q. at_q q (ℕ_discrete r.from q); there = λ q v b d. taken_other new last r.from u _ t hu q v b (λ e f. d f) }
 
 -- what a marker row brings depends on the higher settings alone
 carries_ext : (ts : List ℕ) (a b : Cells) (q u : ℕ) (r : Row) → u < 27 → ((s v : ℕ) → u < v → v < 27 → a s v ≡ b s v) → carries ts a q u r ≡ carries ts b q u r
@@ -94,9 +95,9 @@ carries_ext ts a b q u r hu h = go (dec_lt (move_of u (marker r)) 27)
     go (no l) = rw (le-ltb (move_of u (marker r)) 27 (omega arith), and-false)
 
 module _ (ts : List ℕ) where
-  pub at_none : (u : ℕ) (nw nk : List ℕ) → ClosedAt ts [] u (cells nw nk) (cells nw nk)
+  pub at_none : (u : ℕ) (new : Layer) → ClosedAt ts [] u (cells new) (cells new)
   unfolding sum
-  at_none u nw nk = record { here = λ q. sym (lighter_cap _ (cell_low nw nk q u)); there = λ q w a d. refl }
+  at_none u new = record { here = λ q. sym (lighter_cap _ (cell_low new q u)); there = λ q w a d. refl }
 
   pub at_more : (rows : List Row) (r : Row) (u : ℕ) (new mid last : Cells) → u < 27 → ClosedAt ts rows u new mid → OneClosed ts r u mid last → ClosedAt ts (rows ++ (r ∷ [])) u new last
   at_more rows r u new mid last hu all one =

@@ -1,7 +1,7 @@
 -- The marker rows of a table, gathered row by row; a sum over them is a sum over all rows. And the six tolls of a position.
 use mathlib.Core.Path.{◌≡◌, refl, sym, ap, ap₂, ◌∙◌}
 use mathlib.Core.List.{List, [], ◌∷◌, ◌++◌, map, map-append}
-use Prim.Native.Nat.{ℕ, zero, suc, ◌+◌, ◌-◌, ◌*◌, ◌≤◌, ◌<◌}
+use Prim.Native.Nat.{ℕ, zero, suc, ◌+◌, ◌*◌, ◌<◌}
 use native.Mathlib.Omega.{arith}
 use native.Mathlib.Numerals.{add-one}
 use lib.ListN.{length, get_or, take, set}
@@ -10,10 +10,9 @@ use Rattle.basics.specs.Lists.{All}
 use Rattle.weight.specs.Weight.{lighter_to}
 use Rattle.weight.specs.Semiring.{sum}
 use Rattle.weight.specs.Tropical.{least, sum_cap}
-use Rattle.marks.specs.Labels.{RightLabel, byte, opens, closes}
 use Rattle.table.specs.declared.Row.{Row}
 use Rattle.table.specs.Table.{row_of_words, rows_from, RightRow, RightTable, automaton_of}
-use Rattle.table.specs.Rows.{rows_more}
+use Rattle.table.specs.Rows.{rows_more, table_rows, table_row, table_room, widened}
 use Rattle.togo.specs.Price.{cap}
 use Rattle.layer.specs.Layer.{Cells, carries, MarkerAt, Markers, Closed}
 use Rattle.layer.proofs.Grid.{lighter_cap, sum_snoc}
@@ -60,15 +59,19 @@ module _ (ws : List ℕ) where
             ∙ ap (sum (least cap) f) (sym (rows_more ws (3 + get_or ws 0 0) i));
       }
 
-  -- as the loop writes them
-  pub gather_skip : (i at count : ℕ) (marks : List ℕ) → at ≡ 3 + get_or ws 0 0 + 5 * i → get_or ws (at + 2) 0 ≡ 0 → Markers ws i (take count marks) → Markers ws (i + 1) (take count marks)
-  gather_skip i at count marks e z m = markers_skip i at (take count marks) e z m
+  -- as the loop writes them: row i is passed over, or where it starts is written
+  word_kind : (i : ℕ) (r : Row) → i < length (automaton_of ws).rows → r ≡ get_or (automaton_of ws).rows i r → get_or ws (3 + get_or ws 0 0 + 5 * i + 2) 0 ≡ r.kind
+  word_kind i r h e = ap (λ (r : Row). r.kind) (sym (e ∙ table_row ws i r h))
 
-  pub gather_more : (i at count : ℕ) (marks : List ℕ) → RightTable ws → i < get_or ws 2 0 → at ≡ 3 + get_or ws 0 0 + 5 * i → (get_or ws (at + 2) 0 ≡ 0 → ⊥) → count < length marks → Markers ws i (take count marks) → Markers ws (i + 1) (take (count + 1) (set marks count at))
-  gather_more i at count marks t hi e z h m = rw (add-one count, take-suc-set marks count at h) (markers_more i at (take count marks) e marker m)
+  pub gather_skip : (i count : ℕ) (marks : List ℕ) (r : Row) → i < length (automaton_of ws).rows → r ≡ get_or (automaton_of ws).rows i r → r.kind ≡ 0 → Markers ws i (take count marks) → Markers ws (i + 1) (take count marks)
+  gather_skip i count marks r h e z m = markers_skip i (3 + get_or ws 0 0 + 5 * i) (take count marks) refl (word_kind i r h e ∙ z) m
+
+  pub gather_more : (i at count : ℕ) (marks : List ℕ) (r : Row) → RightTable ws → i < length (automaton_of ws).rows → r ≡ get_or (automaton_of ws).rows i r → (r.kind ≡ 0 → ⊥) → at ≡ 3 + (automaton_of ws).states + 5 * i → count < length marks → Markers ws i (take count marks) → Markers ws (i + 1) (take (count + 1) (set marks count at))
+  unfolding automaton_of
+  gather_more i at count marks r t h e z f room m = rw (add-one count, take-suc-set marks count at room) (markers_more i at (take count marks) f marker m)
     where
       marker : MarkerAt ws at
-      marker = record { inside = omega (arith, t.long); row = rw e (t.right i hi); marks = z }
+      marker = record { inside = rw f (table_room ws i t h); row = rw f (t.right i (rw (table_rows ws) at h)); marks = λ k. z (sym (word_kind i r h e) ∙ (rw f at k)) }
 
   -- a closing under the marker rows is one under all rows
   pub closed_all : (low : ℕ) (ts offs : List ℕ) (new last : Cells) → Markers ws (get_or ws 2 0) offs → Closed low ts (map (row_of_words ws) offs) new last → Closed low ts (automaton_of ws).rows new last
@@ -79,30 +82,11 @@ module _ (ws : List ℕ) where
         kept = closed.kept;
       }
 
--- a row of a table is a row of the largest table
-wider : {K k a : ℕ} → K ≤ 3 → RightLabel K k a → RightLabel 3 k a
-wider h (byte p q) = byte p q
-wider h (opens p q) = opens p (omega arith)
-wider h (closes p q) = closes p (omega arith)
-
 pub marker_row : (ws : List ℕ) (at : ℕ) (r : Row) → RightTable ws → MarkerAt ws at → r ≡ row_of_words ws at → RightRow 32 3 r × (r.kind ≡ 0 → ⊥)
-marker_row ws at r t m e =
-    rw e (
-      record {
-        leaves = omega (arith, m.row.leaves, t.states);
-        leads = omega (arith, m.row.leads, t.states);
-        label = wider t.vars m.row.label;
-        light = m.row.light;
-      },
-      m.marks,
-    )
+marker_row ws at r t m e = rw e (widened ws _ t m.row, m.marks)
 
 -- one marker row more is closed under
 pub at_row : (ws ts offs : List ℕ) (i at : ℕ) (r : Row) (u : ℕ) (new mid last : Cells) → u < 27 → i < length offs → at ≡ get_or offs i 0 → r ≡ row_of_words ws at → ClosedAt ts (map (row_of_words ws) (take i offs)) u new mid → OneClosed ts r u mid last → ClosedAt ts (map (row_of_words ws) (take (i + 1) offs)) u new last
 at_row ws ts offs i at r u new mid last hu h e er all one =
     rw (add-one i, take-suc offs i 0 h, map-append (row_of_words ws) (take i offs) (get_or offs i 0 ∷ []))
     (at_more ts (map (row_of_words ws) (take i offs)) (row_of_words ws (get_or offs i 0)) u new mid last hu all (rw (er, e) at one))
-
--- the part that begins at 0, as the code takes it
-pub from_start : (ws : List ℕ) (n count : ℕ) (marks : List ℕ) → Markers ws n (take count marks) → Markers ws n (take (count - 0) marks)
-from_start ws n count marks m = let e : count - 0 ≡ count = omega arith in rw e m

@@ -1,22 +1,23 @@
--- A cell of two arrays, read and written.
-use mathlib.Core.Path.{◌≡◌, sym, ap, ◌∙◌}
+-- A cell of a layer, read and written.
+use mathlib.Core.Path.{◌≡◌, sym, ap, ap₂, ◌∙◌}
 use mathlib.Core.List.{List, [], ◌∷◌, ◌++◌}
 use Prim.Native.Nat.{ℕ, ◌+◌, ◌*◌, ◌≤◌, ◌<◌, min}
 use native.Mathlib.Omega.{arith}
 use native.Mathlib.Decide.{dec_lt}
-use lib.ListN.{length, get_or, set}
+use lib.ListN.{length, set}
 use lib.Seq.{get_or-set_same, get_or-set_other}
 use Rattle.weight.specs.Weight.{mark, lighter_to, joint_to}
 use Rattle.weight.specs.Semiring.{sum}
 use Rattle.weight.specs.Sums.{sum_append, zero_sum}
 use Rattle.weight.specs.Tropical.{least, lighter_assoc, lighter_comm}
 use Rattle.togo.specs.Price.{base, cap}
-use Rattle.layer.specs.Layer.{cells}
-use Rattle.layer.specs.Parts.{Taken}
+use Rattle.layer.specs.declared.cells.Layer.{Layer}
+use Rattle.layer.specs.Layer.{held, cells}
+use Rattle.layer.specs.Parts.{Written, Taken}
 
-pub cell_low : (ws ks : List ℕ) (q u : ℕ) → cells ws ks q u ≤ cap
+pub cell_low : (l : Layer) (q u : ℕ) → cells l q u ≤ cap
 unfolding cells
-cell_low ws ks q u = least_low (get_or ws (q * 27 + u) 0 * base + get_or ks (q * 27 + u) 0)
+cell_low l q u = least_low (held l (q * 27 + u))
   where
     least_low : (x : ℕ) → min cap x ≤ cap
     least_low x = omega arith
@@ -44,31 +45,35 @@ cut_joint p x = omega arith
 cut : (a b p x y : ℕ) → x ≡ joint_to cap p b → y ≡ lighter_to cap a x → min cap y ≡ lighter_to cap (min cap a) (joint_to cap p (min cap b))
 cut a b p x y ex ey = ap (min cap) ey ∙ cut_twice a x ∙ cut_lighter a x ∙ ap (lighter_to cap (min cap a)) (ex ∙ cut_joint p b)
 
-pub taken_set : (nw nk : List ℕ) (here w k x y : ℕ) → here < length nw → here < length nk → x ≡ y → w * base + k ≡ lighter_to cap (get_or nw here 0 * base + get_or nk here 0) x → Taken y here nw nk (set nw here w) (set nk here k)
-taken_set nw nk here w k x y h g e v =
+pub written_set : (l : Layer) (here w k x : ℕ) → here < length l.weights → here < length l.keys → w * base + k ≡ x → Written x here l (record { weights = set l.weights here w; keys = set l.keys here k })
+unfolding held
+written_set l here w k x h g e =
     record {
-      cell = rw (get_or-set_same nw here w 0 h, get_or-set_same nk here k 0 g) (v ∙ ap (lighter_to cap (get_or nw here 0 * base + get_or nk here 0)) e);
-      weights = λ c d. get_or-set_other nw here c w 0 d;
-      keys = λ c d. get_or-set_other nk here c k 0 d;
+      cell = rw (get_or-set_same l.weights here w 0 h, get_or-set_same l.keys here k 0 g) e;
+      others = λ c d. rw (get_or-set_other l.weights here c w 0 d, get_or-set_other l.keys here c k 0 d);
     }
 
-module _ (nw nk lw lk : List ℕ) (q u x : ℕ) (t : Taken x (q * 27 + u) nw nk lw lk) where
-  pub taken_other : u < 27 → (s v : ℕ) → v < 27 → (s ≡ q → v ≡ u → ⊥) → cells lw lk s v ≡ cells nw nk s v
-  unfolding cells
-  taken_other hu s v hv d = rw (t.weights (s * 27 + v) (apart s q v u hv hu d), t.keys (s * 27 + v) (apart s q v u hv hu d))
+-- what is written is the lighter of what was there and of x
+pub taken_written : (new last : Layer) (here near far v x : ℕ) → near ≡ held new here → far ≡ x → v ≡ lighter_to cap near far → Written v here new last → Taken x here new last
+taken_written new last here near far v x e f g w = record { cell = w.cell ∙ g ∙ ap₂ (lighter_to cap) e f; others = w.others }
 
-  -- what came is cell (s, v) of two arrays, with the price p
-  pub taken_same : (ow ok : List ℕ) (s v p : ℕ) → x ≡ joint_to cap p (get_or ow (s * 27 + v) 0 * base + get_or ok (s * 27 + v) 0) → cells lw lk q u ≡ lighter_to cap (cells nw nk q u) (joint_to cap p (cells ow ok s v))
+module _ (new last : Layer) (q u x : ℕ) (t : Taken x (q * 27 + u) new last) where
+  pub taken_other : u < 27 → (s v : ℕ) → v < 27 → (s ≡ q → v ≡ u → ⊥) → cells last s v ≡ cells new s v
   unfolding cells
-  taken_same ow ok s v p e = cut _ _ p x _ e t.cell
+  taken_other hu s v hv d = rw (t.others (s * 27 + v) (apart s q v u hv hu d))
+
+  -- what came is cell (s, v) of a layer, with the price p
+  pub taken_same : (old : Layer) (s v p : ℕ) → x ≡ joint_to cap p (held old (s * 27 + v)) → cells last q u ≡ lighter_to cap (cells new q u) (joint_to cap p (cells old s v))
+  unfolding cells
+  taken_same old s v p e = cut _ _ p x _ e t.cell
 
 -- a cell whose weight is the mark is none, and brings nothing
-pub dead : (ws ks : List ℕ) (q u : ℕ) → get_or ws (q * 27 + u) 0 ≡ mark → cells ws ks q u ≡ cap
+pub dead : (l : Layer) (q u w k : ℕ) → w * base + k ≡ held l (q * 27 + u) → w ≡ mark → cells l q u ≡ cap
 unfolding cells
-dead ws ks q u e = rw e (over (get_or ks (q * 27 + u) 0))
+dead l q u w k e m = ap (min cap) (sym e) ∙ over w m
   where
-    over : (k : ℕ) → min cap (mark * base + k) ≡ cap
-    over k = omega arith
+    over : (w : ℕ) → w ≡ mark → min cap (w * base + k) ≡ cap
+    over w m = omega arith
 
 -- a sum over one row more
 pub sum_snoc : {A : Type 0} (f : A → ℕ) (xs : List A) (x : A) → sum (least cap) f (xs ++ (x ∷ [])) ≡ lighter_to cap (sum (least cap) f xs) (f x)

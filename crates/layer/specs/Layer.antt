@@ -1,7 +1,9 @@
 -- METHOD. The cells of one position, and what the byte step and the closing make of them. Definitions only.
 --
 -- Cells               a number for each state and setting
--- cells ws ks         what two arrays of weights and keys hold: cell (q, u) stands at q × 27 + u, and none is more than "no run"
+-- held l c            the cell at place c of the layer l as one number: its weight in units of 2^64, and its key
+-- cells l             what the layer l holds: cell (q, u) stands at q × 27 + u, and none is more than "no run"
+-- Empty l             no cell of the layer l has a run
 -- brings b old q u r  what the row r brings to cell (q, u) by reading the byte b, from the cells after that byte
 -- shut                a toll that says: not here
 -- toll_of allow p m    what marker m adds to the key at position p, or shut
@@ -24,14 +26,21 @@ use Rattle.marks.specs.Labels.{is_byte, reads}
 use Rattle.setting.specs.Setting.{move_of, begin}
 use Rattle.table.specs.declared.Row.{Row}
 use Rattle.table.specs.Table.{Automaton, label_of, row_of_words, rows_from, RightRow}
+use Rattle.layer.specs.declared.cells.Layer.{Layer}
 use Rattle.togo.specs.ToGo.{Config, marker, kernel}
 use Rattle.togo.specs.Price.{base, cap, big_price, big_end}
 
 abbrev pub Cells : Type 0
 Cells = ℕ → ℕ → ℕ
 
-unfoldable pub cells : List ℕ → List ℕ → ℕ → ℕ → ℕ
-cells ws ks q u = min cap (get_or ws (q * 27 + u) 0 * base + get_or ks (q * 27 + u) 0)
+unfoldable pub held : Layer → ℕ → ℕ
+held l c = get_or l.weights c 0 * base + get_or l.keys c 0
+
+unfoldable pub cells : Layer → Cells
+cells l q u = min cap (held l (q * 27 + u))
+
+pub record Empty (l : Layer) : Type 0 where
+  pub none : (c : ℕ) → c < 864 → held l c ≡ cap
 
 unfoldable pub brings : ℕ → Cells → ℕ → ℕ → Row → ℕ
 brings b old q u r = cond (is_byte (label_of r) && (reads (label_of r) b && eqb r.from q)) (joint_to cap (r.weight * base) (old r.to u)) cap

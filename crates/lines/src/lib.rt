@@ -2,31 +2,29 @@
 // `line_end` finds where a line ends; `keep` holds the part of a line that the next piece will go on with, as far as there is room.
 #![tactic(auto)]
 
-ghost use Rattle.std.specs.Prelude.{◌≡◌, ◌+◌, ◌-◌, ◌≤◌, min, length, drop};
+ghost use Rattle.std.specs.Prelude.{◌≡◌, ◌==◌, ◌+◌, ◌-◌, ◌≤◌, min, length, drop};
 ghost use Rattle.std.proofs.Math.Seq.{paste};
-ghost use Rattle.lines.specs.Ends.{EndsAt};
+ghost use Rattle.std.specs.List.{position};
+ghost use Rattle.lines.specs.Ends.{EndsAt, lf};
 
 pub const LF: u8 = 10;
 
-// Where the line that `at` stands in ends: its LF, or the end of the text.
+fn first_lf(text: &[u8]) -> Option<usize>
+    ensures { result ≡ position (λ b. b == lf) text.now }
+{
+    text.iter().position(|b| *b == LF)
+}
+
+// Where the line that `at` stands in ends: its LF, or the end of the text. A text and a place apart, as for `keep` a buffer and its
+// length: so the clauses promise it, and a type of the two would ask more of callers.
 pub fn line_end(text: &[u8], at: usize) -> usize
     requires { at ≤ length text.now }
     ensures { EndsAt text.now at result }
 {
-    let mut i = at;
-    while i < text.len() {
-        if text[i] == LF {
-            return i;
-        }
-        i += 1;
+    match first_lf(&text[at..]) {
+        Some(n) => at + n,
+        None => text.len(),
     }
-    i
-}
-
-fn least(a: usize, b: usize) -> usize
-    ensures { result ≡ min a b }
-{
-    if a < b { a } else { b }
 }
 
 // Puts what stands in `piece` from `from` up to `to` after the first `len` bytes of `held`, as much of it as there is room for,
@@ -36,11 +34,7 @@ pub fn keep(held: &mut [u8], len: usize, piece: &[u8], from: usize, to: usize) -
     ensures value { result ≡ len + min (to - from) (length held.old - len) }
     ensures held_after { held.new ≡ paste held.old len (drop from piece.now) (min (to - from) (length held.old - len)) }
 {
-    let n = least(to - from, held.len() - len);
-    let mut i = 0;
-    while i < n {
-        held[len + i] = piece[from + i];
-        i += 1;
-    }
+    let n = (to - from).min(held.len() - len);
+    held[len..len + n].copy_from_slice(&piece[from..from + n]);
     len + n
 }

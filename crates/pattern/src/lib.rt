@@ -11,6 +11,8 @@ pub enum Class {
     Illegal,
 }
 
+// A form that the project chose: a byte is sorted by a match with ranges.
+#[tactic(auto, unfolding(crate::specs::Bytes::byte_class))]
 pub fn class_of(b: u8) -> Class
     ensures { result ≡ byte_class b }
 {

@@ -7,6 +7,7 @@
 ghost use Rattle.std.specs.Prelude.{◌≡◌};
 ghost use Rattle.setting.specs.Setting.{Moves};
 
+// A form that the project chose: a constant table.
 #[rattlefmt::skip]
 pub const MOVES: [u8; 162] = [
     1, 27, 3, 27, 9, 27, // setting 0

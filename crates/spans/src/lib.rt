@@ -4,9 +4,9 @@
 
 ghost use Rattle.std.specs.Prelude.{◌≡◌};
 ghost use Rattle.basics.specs.Decides.{Decides};
-ghost use Rattle.spans.specs.Spans.{SetOfSpans, Part};
+ghost use Rattle.spans.specs.Spans.{SetOfSpans, Part, digits};
 
-#[derive(Clone, Copy)]
+#[derive(Clone, Copy, PartialEq, Eq)]
 pub struct Spans {
     pub s1: u32,
     pub e1: u32,
@@ -16,10 +16,28 @@ pub struct Spans {
     pub e3: u32,
 }
 
-fn wide(x: u32) -> usize
-    ensures { result ≡ x }
-{
-    x as usize
+// The six numbers in the order of printing, and back.
+impl From<Spans> for [u32; 6] {
+    ghost from_gives = { λ set positions. positions ≡ digits set };
+
+    fn from(set: Spans) -> [u32; 6] {
+        [set.s1, set.e1, set.s2, set.e2, set.s3, set.e3]
+    }
+}
+
+impl From<[u32; 6]> for Spans {
+    ghost from_gives = { λ positions set. digits set ≡ positions };
+
+    fn from([s1, e1, s2, e2, s3, e3]: [u32; 6]) -> Spans {
+        Spans {
+            s1,
+            e1,
+            s2,
+            e2,
+            s3,
+            e3,
+        }
+    }
 }
 
 // One variable's part of a set.
@@ -27,19 +45,10 @@ fn part(k: u32, n: usize, v: u32, s: u32, e: u32) -> bool
     ensures { Decides (Part k n v s e) result }
 {
     if k < v {
-        if s != 0 {
-            return false;
-        }
-        return e == 0;
+        s == 0 && e == 0
+    } else {
+        1 <= s && s <= e && (e - 1) as usize <= n
     }
-    if s < 1 {
-        return false;
-    }
-    if e < s {
-        return false;
-    }
-    let last = e - 1;
-    wide(last) <= n
 }
 
 impl Spans {
@@ -47,12 +56,8 @@ impl Spans {
     pub fn is_set(self, k: u32, n: usize) -> bool
         ensures { Decides (SetOfSpans k n self) result }
     {
-        if !part(k, n, 1, self.s1, self.e1) {
-            return false;
-        }
-        if !part(k, n, 2, self.s2, self.e2) {
-            return false;
-        }
-        part(k, n, 3, self.s3, self.e3)
+        part(k, n, 1, self.s1, self.e1)
+            && part(k, n, 2, self.s2, self.e2)
+            && part(k, n, 3, self.s3, self.e3)
     }
 }

@@ -1,1 +1,2 @@
+mod Every
 mod Labels

@@ -8,6 +8,10 @@ ghost use Rattle.marks.specs.Labels.{RightLabel};
 ghost use Rattle.table.specs.Table.{row_of_words, RightRow, RightEnd, RightTable, most_states, most_rows};
 ghost use Rattle.table.specs.Check.{RightBytes, RightHeader, EndsRight, RowsRight};
 
+pub mod right;
+
+// Five words of a table. The kind stays a number: it is a word of a lent table that may hold anything, and the check is what tells
+// 0, 1 and 2 from the rest.
 #[derive(Clone, Copy)]
 pub struct Row {
     pub from: u32,
@@ -43,63 +47,36 @@ pub fn row_at(t: &[u32], at: usize) -> Row
 fn right_end(w: u32) -> bool
     ensures { Decides (RightEnd w) result }
 {
-    if w <= MOST_WEIGHT {
-        return true;
-    }
-    w == NO_END
+    w <= MOST_WEIGHT || w == NO_END
 }
 
 fn right_bytes(argument: u32) -> bool
     ensures { Decides (RightBytes argument) result }
 {
-    if argument >= 65536 {
-        return false;
-    }
-    argument / 256 <= argument % 256
+    argument < 65536 && argument / 256 <= argument % 256
 }
 
 fn right_label(k: u32, kind: u32, argument: u32) -> bool
     ensures { Decides (RightLabel k kind argument) result }
 {
-    if kind == 0 {
-        return right_bytes(argument);
+    match kind {
+        0 => right_bytes(argument),
+        1 | 2 => 1 <= argument && argument <= k,
+        _ => false,
     }
-    if kind > 2 {
-        return false;
-    }
-    if argument < 1 {
-        return false;
-    }
-    argument <= k
 }
 
 fn right_row(s: u32, k: u32, r: Row) -> bool
     ensures { Decides (RightRow s k r) result }
 {
-    if r.from >= s {
-        return false;
-    }
-    if r.to >= s {
-        return false;
-    }
-    if r.weight > MOST_WEIGHT {
-        return false;
-    }
-    right_label(k, r.kind, r.argument)
+    r.from < s && r.to < s && r.weight <= MOST_WEIGHT && right_label(k, r.kind, r.argument)
 }
 
 fn right_ends(t: &[u32], s: usize) -> bool
     requires { 3 + s ≤ length t.now }
     ensures { Decides (EndsRight t.now s) result }
 {
-    let mut q = 0;
-    while q < s {
-        if !right_end(t[3 + q]) {
-            return false;
-        }
-        q += 1;
-    }
-    true
+    (0..s).all(|q| right_end(t[3 + q]))
 }
 
 fn right_rows(t: &[u32], s: u32, k: u32, n: usize) -> bool
@@ -107,29 +84,13 @@ fn right_rows(t: &[u32], s: u32, k: u32, n: usize) -> bool
     ensures { Decides (RowsRight t.now s k n) result }
 {
     let at = 3 + s as usize;
-    let mut i = 0;
-    while i < n {
-        if !right_row(s, k, row_at(t, at + 5 * i)) {
-            return false;
-        }
-        i += 1;
-    }
-    true
+    (0..n).all(|i| right_row(s, k, row_at(t, at + 5 * i)))
 }
 
 fn right_header(s: u32, k: u32, n: u32) -> bool
     ensures { Decides (RightHeader s k n) result }
 {
-    if s < 1 {
-        return false;
-    }
-    if s > MOST_STATES {
-        return false;
-    }
-    if k > MOST_VARS {
-        return false;
-    }
-    n <= MOST_ROWS
+    1 <= s && s <= MOST_STATES && k <= MOST_VARS && n <= MOST_ROWS
 }
 
 fn words_of(s: u32, n: u32) -> usize
@@ -143,20 +104,11 @@ fn words_of(s: u32, n: u32) -> usize
 pub fn is_right(t: &[u32]) -> bool
     ensures { Decides (RightTable t.now) result }
 {
-    if t.len() < 3 {
+    let [s, k, n, ..] = *t else {
         return false;
-    }
-    let s = t[0];
-    let k = t[1];
-    let n = t[2];
-    if !right_header(s, k, n) {
-        return false;
-    }
-    if t.len() < words_of(s, n) {
-        return false;
-    }
-    if !right_ends(t, s as usize) {
-        return false;
-    }
-    right_rows(t, s, k, n as usize)
+    };
+    right_header(s, k, n)
+        && words_of(s, n) <= t.len()
+        && right_ends(t, s as usize)
+        && right_rows(t, s, k, n as usize)
 }

@@ -5,14 +5,14 @@
 ghost use Rattle.std.specs.Prelude.{◌≡◌};
 ghost use Rattle.weight.specs.Weight.{lighter, joint};
 
-#[derive(Clone, Copy)]
+#[derive(Clone, Copy, PartialEq, Eq, PartialOrd, Ord)]
 pub struct Weight {
     pub number: u32,
 }
 
 impl Weight {
     // No run.
-    pub const MARK: Weight = Weight { number: 4294967295 };
+    pub const MARK: Weight = Weight { number: u32::MAX };
 
     pub const ZERO: Weight = Weight { number: 0 };
 
@@ -20,26 +20,16 @@ impl Weight {
     pub fn lighter(self, other: Weight) -> Weight
         ensures { result.number ≡ lighter self.number other.number }
     {
-        let a = self.number;
-        let b = other.number;
-        if a < b {
-            Weight { number: a }
-        } else {
-            Weight { number: b }
-        }
+        self.min(other)
     }
 
-    // The mark, where the sum would be that or more.
+    // The mark, where the sum would be that or more: no number is larger.
     #[tactic(auto, unfolding(crate::specs::Weight::joint_to))]
     pub fn sum(self, other: Weight) -> Weight
         ensures { result.number ≡ joint self.number other.number }
     {
-        let a = self.number;
-        let b = other.number;
-        if Weight::MARK.number - a < b {
-            Weight::MARK
-        } else {
-            Weight { number: a + b }
+        Weight {
+            number: self.number.saturating_add(other.number),
         }
     }
 }
