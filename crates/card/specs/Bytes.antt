@@ -1,12 +1,15 @@
 -- METHOD. The form of a card by places in its text, and that this is the form that Form.antt defines.
 --
 -- FirstRight text K       line 1 is right, by places
-use Rattle.std.specs.Prelude.{◌≡◌, refl, List, [], ◌∷◌, ◌++◌, ℕ, suc, ◌+◌, ◌≤◌, ◌<◌, length, get_or, take, drop}
-use Rattle.std.proofs.Common.{sym, ap, ap₂, ◌∙◌, add-one, arith, length-append, take-append-drop, length-take, length-drop, drop-cons, get_or-drop, get_or-take, drop-drop, length-take-le, take-suc, get_or-append-add}
+use Rattle.std.specs.Prelude.{◌≡◌, refl, Bool, true, false, nat_eq, Decides, Ok, Err, List, [], ◌∷◌, ◌++◌, ℕ, suc, ◌+◌, ◌-◌, ◌≤◌, ◌<◌, length, get_or, take, drop}
+use Rattle.std.proofs.Common.{sym, ap, ◌∙◌, arith, length-append, take-append-drop, length-drop, drop-cons, get_or-drop, get_or-take, drop-drop, length-take-le, true≢false, get_or-append-add, ap₂, add-one, length-take, take-suc}
+use Rattle.std.specs.List.{starts_with}
+use Rattle.std.proofs.lemmas.Slice.Eq.{slice_eq-Decides}
+use Rattle.std.proofs.lemmas.Bool.Decides.{Decides-eqb}
 use Rattle.std.proofs.Math.Seq.{slice, length-slice, get_or-append_seam}
-use Rattle.std.proofs.lemmas.List.{drop-append-le}
+use Rattle.std.proofs.lemmas.List.{drop-append-le, take_all}
 use Rattle.lines.specs.Ends.{EndsAt, lf}
-use Rattle.card.specs.declared.Form.TheVariants.{Right, Wrong}
+use Rattle.refusal.specs.declared.CardLine.TheVariants.{First, Second}
 use Rattle.card.specs.Form.{vars_key, pattern_key, LineOne, LineTwo, FormOf, right, wrong_one, wrong_two}
 
 pub record FirstRight (text : List ℕ) (K : ℕ) : Type 0 where
@@ -30,6 +33,21 @@ first_line text K f =
 
 pub line_first : (text : List ℕ) (K : ℕ) (rest : List ℕ) → LineOne text K rest → FirstRight text K
 line_first text K rest l = rw l.whole (record { long = omega arith; key = refl; digit = refl; decimal = l.digit; ended = refl })
+
+-- from a place on, a text goes to its end
+pub from_on : (n : ℕ) (l k : List ℕ) (r : Bool) → r ≡ starts_with nat_eq (take (length l - n) (drop n l)) k → r ≡ starts_with nat_eq (drop n l) k
+from_on n l k r e = e ∙ ap (λ (m : List ℕ). starts_with nat_eq m k) (take_all (length l - n) (drop n l) (omega (arith, length-drop n l)))
+
+-- what a key that was compared says
+module _ (l k : List ℕ) (r : Bool) (e : r ≡ starts_with nat_eq l k) where
+  decides : Decides r (take (length k) l ≡ k)
+  decides = let d = slice_eq-Decides Decides-eqb k (take (length k) l) r e in ((λ t. sym (d.0 t)), λ g. d.1 (sym g))
+
+  pub begun : r ≡ true → take (length k) l ≡ k
+  begun t = decides.0 t
+
+  pub not_begun : r ≡ false → take (length k) l ≡ k → ⊥
+  not_begun f g = true≢false (sym (decides.1 g) ∙ f)
 
 -- how two lists agree on more and more of their start
 pub prefix_more : (l k : List ℕ) (i : ℕ) → i < length l → i < length k → take i l ≡ take i k → get_or l i 0 ≡ get_or k i 0 → take (i + 1) l ≡ take (i + 1) k
@@ -80,12 +98,12 @@ pub no_line : (text p lines : List ℕ) (to : ℕ) → EndsAt text 15 to → len
 no_line text p lines to e h l = let s = line_second text p lines l in e.none (15 + length p) (omega arith) (omega (arith, s.long)) s.ended
 
 -- what a right line 1 shows, against what was seen
-pub no_first : (text : List ℕ) → ((K : ℕ) → FirstRight text K → ⊥) → FormOf text (Wrong 1)
+pub no_first : (text : List ℕ) → ((K : ℕ) → FirstRight text K → ⊥) → FormOf text (Err First)
 no_first text f = wrong_one (λ K rest l. f K (line_first text K rest l))
 
-pub no_second : (text : List ℕ) (K : ℕ) → FirstRight text K → ((p lines : List ℕ) → LineTwo (drop 7 text) p lines → ⊥) → FormOf text (Wrong 2)
+pub no_second : (text : List ℕ) (K : ℕ) → FirstRight text K → ((p lines : List ℕ) → LineTwo (drop 7 text) p lines → ⊥) → FormOf text (Err Second)
 no_second text K f g = wrong_two (drop 7 text) (first_line text K f) g
 
-pub both_right : (text : List ℕ) (K to : ℕ) → FirstRight text K → take 8 (drop 7 text) ≡ pattern_key → EndsAt text 15 to → to < length text → FormOf text (Right K 15 to)
+pub both_right : (text : List ℕ) (K to : ℕ) → FirstRight text K → take 8 (drop 7 text) ≡ pattern_key → EndsAt text 15 to → to < length text → FormOf text (Ok (record { vars = K; from = 15; to = to }))
 both_right text K to f key e h =
-    right {to = to} (slice 15 to text) (drop (suc to) text) (record { second = drop 7 text; one = first_line text K f; two = second_line text to key e h }) refl (omega (arith, length-slice 15 to text e.within, e.from))
+    right {t = to} (slice 15 to text) (drop (suc to) text) (record { second = drop 7 text; one = first_line text K f; two = second_line text to key e h }) refl (omega (arith, length-slice 15 to text e.within, e.from))

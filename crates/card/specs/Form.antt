@@ -5,11 +5,12 @@
 -- LineOne text K rest     text begins with `vars=`, the digit K and LF; rest follows
 -- LineTwo text p rest     text begins with `pattern=`, the bytes p, none of them LF, and LF; rest follows
 -- IsCard text K p lines   text begins with a card of K variables and the pattern p; lines follow
--- FormOf text f           f says what the form of the card is: number 10's test
-use Rattle.std.specs.Prelude.{◌≡◌, List, [], ◌∷◌, ◌++◌, ℕ, ◌+◌, ◌≤◌, ◌<◌, length, get_or}
+-- FormOf text r           r says what the form of the card is, or which line is wrong: number 10's test
+use Rattle.std.specs.Prelude.{◌≡◌, Result, Ok, Err, List, [], ◌∷◌, ◌++◌, ℕ, ◌+◌, ◌≤◌, ◌<◌, length, get_or}
 use Rattle.lines.specs.Ends.{lf}
+use Rattle.refusal.specs.declared.CardLine.{CardLine}
+use Rattle.refusal.specs.declared.CardLine.TheVariants.{First, Second}
 use Rattle.card.specs.declared.Form.{Form}
-use Rattle.card.specs.declared.Form.TheVariants.{Right, Wrong}
 
 abbrev pub vars_key : List ℕ
 vars_key = 118 ∷ 97 ∷ 114 ∷ 115 ∷ 61 ∷ []
@@ -30,7 +31,7 @@ pub record IsCard (text : List ℕ) (K : ℕ) (p lines : List ℕ) : Type 0 wher
   pub one : LineOne text K second
   pub two : LineTwo second p lines
 
-pub data FormOf (text : List ℕ) : Form → Type 0 where
-  right : {K from to : ℕ} (p lines : List ℕ) → IsCard text K p lines → from ≡ 15 → to ≡ 15 + length p → FormOf text (Right K from to)
-  wrong_one : ((K : ℕ) (rest : List ℕ) → LineOne text K rest → ⊥) → FormOf text (Wrong 1)
-  wrong_two : {K : ℕ} (rest : List ℕ) → LineOne text K rest → ((p lines : List ℕ) → LineTwo rest p lines → ⊥) → FormOf text (Wrong 2)
+pub data FormOf (text : List ℕ) : Result Form CardLine → Type 0 where
+  right : {K f t : ℕ} (p lines : List ℕ) → IsCard text K p lines → f ≡ 15 → t ≡ 15 + length p → FormOf text (Ok (record { vars = K; from = f; to = t }))
+  wrong_one : ((K : ℕ) (rest : List ℕ) → LineOne text K rest → ⊥) → FormOf text (Err First)
+  wrong_two : {K : ℕ} (rest : List ℕ) → LineOne text K rest → ((p lines : List ℕ) → LineTwo rest p lines → ⊥) → FormOf text (Err Second)

@@ -2,9 +2,10 @@
 --
 -- card_one        one K, one pattern, one rest
 -- form_one        one answer
-use Rattle.std.specs.Prelude.{◌≡◌, refl, List, [], ◌∷◌, ◌++◌, ℕ, suc, ◌<◌, length, get_or, drop}
+use Rattle.std.specs.Prelude.{◌≡◌, refl, Result, List, [], ◌∷◌, ◌++◌, ℕ, suc, ◌<◌, length, get_or, drop}
 use Rattle.std.proofs.Common.{sym, ap, ap₂, ◌∙◌, arith}
 use Rattle.lines.specs.Ends.{lf}
+use Rattle.refusal.specs.declared.CardLine.{CardLine}
 use Rattle.card.specs.declared.Form.{Form}
 use Rattle.card.specs.Form.{LineOne, LineTwo, IsCard, FormOf, right, wrong_one, wrong_two}
 use Rattle.card.specs.Bytes.{line_first}
@@ -44,7 +45,7 @@ card_one text K J p q l m a b =
     let f = line_two_one b.second p q l m (rw e.1 at a.two) b.two in
     (e.0, f.0, f.1)
 
-pub form_one : (text : List ℕ) (f g : Form) → FormOf text f → FormOf text g → f ≡ g
+pub form_one : (text : List ℕ) (f g : Result Form CardLine) → FormOf text f → FormOf text g → f ≡ g
 form_one text f g (right {K = K} p l a x y) (right {K = J} q m b u v) =
     let e = card_one text K J p q l m a b in
     rw (x, y, u, v, e.0, e.1)

@@ -3,12 +3,12 @@
 -- Stands text K from to   there is a card of K variables, whose pattern is that part of the text
 -- stands                  what the form of a card says of it
 -- wrong_line              or which line is wrong
-use Rattle.std.specs.Prelude.{◌≡◌, List, ◌∷◌, ◌++◌, ℕ, ◌+◌, ◌-◌, ◌≤◌, length, take, drop}
+use Rattle.std.specs.Prelude.{◌≡◌, Result, Ok, Err, List, ◌∷◌, ◌++◌, ℕ, ◌+◌, ◌-◌, ◌≤◌, length, take, drop}
 use Rattle.std.proofs.Common.{ap, ◌∙◌, subst, arith, length-append}
 use Rattle.std.proofs.Math.Seq.{take-append_seam}
 use Rattle.lines.specs.Ends.{lf}
+use Rattle.refusal.specs.declared.CardLine.{CardLine}
 use Rattle.card.specs.declared.Form.{Form}
-use Rattle.card.specs.declared.Form.TheVariants.{Right, Wrong}
 use Rattle.card.specs.Form.{IsCard, FormOf, right}
 
 pub record Stands (text : List ℕ) (K from to : ℕ) : Type 0 where
@@ -36,11 +36,11 @@ placed text K from to p l c e f =
       part = rw e (let g : to - 15 ≡ length p = omega arith in rw g (ap (take (length p)) (after text K p l c) ∙ take-append_seam p (lf ∷ l)));
     }
 
-pub stands : {text : List ℕ} {f : Form} {K from to : ℕ} → f ≡ Right K from to → FormOf text f → Stands text K from to
+pub stands : {text : List ℕ} {r : Result Form CardLine} {f : Form} → r ≡ Ok f → FormOf text r → Stands text f.vars f.from f.to
 stands {text} e a = is (subst (FormOf text) e a)
   where
-    is : {K from to : ℕ} → FormOf text (Right K from to) → Stands text K from to
-    is {K} {from} {to} (right p l c x y) = placed text K from to p l c x y
+    is : {f : Form} → FormOf text (Ok f) → Stands text f.vars f.from f.to
+    is (right {K} {f} {t} p l c x y) = placed text K f t p l c x y
 
-pub wrong_line : {text : List ℕ} {f : Form} {n : ℕ} → f ≡ Wrong n → FormOf text f → FormOf text (Wrong n)
+pub wrong_line : {text : List ℕ} {r : Result Form CardLine} {l : CardLine} → r ≡ Err l → FormOf text r → FormOf text (Err l)
 wrong_line {text} e a = subst (FormOf text) e a

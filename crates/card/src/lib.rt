@@ -3,80 +3,69 @@
 // One pass over the card's text; no arrays.
 #![tactic(auto)]
 
-ghost use Rattle.std.specs.Prelude.{◌≡◌, ◌+◌, ◌≤◌, length, take, drop};
-ghost use Rattle.basics.specs.Decides.{Decides};
+ghost use Rattle.std.specs.Prelude.{Err, MatchResult};
 ghost use Rattle.card.specs.Form.{FormOf};
 ghost use Rattle.card.specs.Bytes.{FirstRight};
 
-const VARS: [u8; 5] = [b'v', b'a', b'r', b's', b'='];
+use refusal::CardLine;
 
-const PATTERN: [u8; 8] = [b'p', b'a', b't', b't', b'e', b'r', b'n', b'='];
+const VARS: [u8; 5] = *b"vars=";
 
+const PATTERN: [u8; 8] = *b"pattern=";
+
+// Where the digit stands, its LF, line 2 and the pattern.
+const DIGIT: usize = VARS.len();
+
+const DIGIT_LF: usize = DIGIT + 1;
+
+const LINE_TWO: usize = DIGIT + 2;
+
+const FROM: usize = LINE_TWO + PATTERN.len();
+
+// vars: the number after `vars=`. The pattern stands from byte `from` up to but not `to`, counted from 0.
 #[derive(Clone, Copy)]
-pub enum Form {
-    // vars: the number after `vars=`. The pattern stands from byte `from` up to but not `to`, counted from 0.
-    Right { vars: u32, from: usize, to: usize },
-    // The first line of the card that is wrong, 1 or 2.
-    Wrong { line: u32 },
+pub struct Form {
+    pub vars: u32,
+    pub from: usize,
+    pub to: usize,
 }
 
-fn wide(b: u8) -> u32
-    ensures { result ≡ b }
+// Line 1: the number after `vars=`.
+fn first(text: &[u8]) -> Result<u32, CardLine>
+    ensures { MatchResult result (λ vars. FirstRight text.now vars) (λ line. FormOf text.now (Err line)) }
 {
-    b as u32
+    if text.len() < LINE_TWO || !text.starts_with(&VARS) {
+        return Err(CardLine::First);
+    }
+    let d = text[DIGIT];
+    if !matches!(d, b'0'..=b'9') || text[DIGIT_LF] != lines::LF {
+        return Err(CardLine::First);
+    }
+    Ok(u32::from(d - b'0'))
 }
 
-// Whether the bytes from `at` on begin with the key.
-fn begins(text: &[u8], at: usize, key: &[u8]) -> bool
-    requires { at ≤ length text.now }
-    ensures { Decides (take (length key.now) (drop at text.now) ≡ key.now) result }
-{
-    if text.len() - at < key.len() {
-        return false;
-    }
-    let mut i = 0;
-    while i < key.len() {
-        if text[at + i] != key[i] {
-            return false;
-        }
-        i += 1;
-    }
-    true
-}
-
-// Line 2, which starts at byte 7: where the pattern ends.
-fn second(text: &[u8], vars: u32) -> Form
+// Line 2, after a first line that is right.
+fn second(text: &[u8], vars: u32) -> Result<Form, CardLine>
     requires { FirstRight text.now vars }
     ensures { FormOf text.now result }
 {
-    if !begins(text, 7, &PATTERN) {
-        return Form::Wrong { line: 2 };
+    if !text[LINE_TWO..].starts_with(&PATTERN) {
+        return Err(CardLine::Second);
     }
-    let to = lines::line_end(text, 15);
+    let to = lines::line_end(text, FROM);
     if text.len() <= to {
-        return Form::Wrong { line: 2 };
+        return Err(CardLine::Second);
     }
-    Form::Right { vars, from: 15, to }
+    Ok(Form {
+        vars,
+        from: FROM,
+        to,
+    })
 }
 
-pub fn form_of(text: &[u8]) -> Form
+// Err: the first line that is wrong.
+pub fn form_of(text: &[u8]) -> Result<Form, CardLine>
     ensures { FormOf text.now result }
 {
-    if !begins(text, 0, &VARS) {
-        return Form::Wrong { line: 1 };
-    }
-    if text.len() < 7 {
-        return Form::Wrong { line: 1 };
-    }
-    let d = text[5];
-    if d < b'0' {
-        return Form::Wrong { line: 1 };
-    }
-    if b'9' < d {
-        return Form::Wrong { line: 1 };
-    }
-    if text[6] != lines::LF {
-        return Form::Wrong { line: 1 };
-    }
-    second(text, wide(d - b'0'))
+    second(text, first(text)?)
 }

@@ -8,14 +8,14 @@
 --                         what the room holds then: the lowest number that could be given and the room as before, or no number
 --                         and the exact table of the text's tree, with the words after it as before
 -- CompilesCard            the same for a whole card: its form first, number 10
-use Rattle.std.specs.Prelude.{◌≡◌, List, ◌++◌, ℕ, ◌<◌, length, drop}
+use Rattle.std.specs.Prelude.{◌≡◌, List, ◌++◌, ℕ, ◌<◌, length, drop, Result, Ok, Err}
+use Rattle.refusal.specs.declared.Refusal.{Refusal}
+use Rattle.refusal.specs.Numbers.{number_of, place_of}
 use Rattle.table.specs.Table.{most_vars}
 use Rattle.pattern.specs.Grammar.{Pat, Pattern, steps_of, nesting_of}
 use Rattle.pattern.specs.Places.{Refused as NotInGrammar}
 use Rattle.layout.specs.Layout.{TableOf}
 use Rattle.card.specs.Form.{LineOne, LineTwo, IsCard}
-use Rattle.compiler.specs.declared.Compiled.{Compiled}
-use Rattle.compiler.specs.declared.Compiled.TheVariants.{Written, Refused}
 
 abbrev pub most_text : ℕ
 most_text = 255
@@ -37,9 +37,9 @@ written n = record { number = 0; place = 0; words = n }
 abbrev pub refusal : ℕ → ℕ → Printed
 refusal n p = record { number = n; place = p; words = 0 }
 
-abbrev pub compiled : Compiled → Printed
-compiled (Written n) = written n
-compiled (Refused n p) = refusal n p
+abbrev pub compiled : Result ℕ Refusal → Printed
+compiled (Ok n) = written n
+compiled (Err r) = refusal (number_of r) (place_of r)
 
 -- numbers 1 to 5: when each could be given of a pattern text, and its place
 pub data TextFails (K : ℕ) (text : List ℕ) : ℕ → ℕ → Type 0 where

@@ -6,11 +6,11 @@
 -- table_in             the words of the table that they make
 -- Emits ws old r new  r says that ws are written: at the exit the room is ws and, after them, the words that stood there at the entry;
 --                     or that the room is shorter than ws, and how long they are: then the room is as it was
-use Rattle.std.specs.Prelude.{◌≡◌, cond, List, ◌++◌, ℕ, zero, suc, ◌+◌, ◌*◌, ◌≤◌, ◌<◌, eqb, length, get_or, drop}
+use Rattle.std.specs.Prelude.{◌≡◌, cond, Result, Ok, Err, List, ◌++◌, ℕ, zero, suc, ◌+◌, ◌*◌, ◌≤◌, ◌<◌, eqb, length, get_or, drop}
 use Rattle.marks.specs.Labels.{Label}
 use Rattle.layout.specs.Words.{words_of}
-use Rattle.emit.specs.declared.Emitted.{Emitted}
-use Rattle.emit.specs.declared.Emitted.TheVariants.{Written, Short}
+use Rattle.refusal.specs.declared.Refusal.{Refusal}
+use Rattle.refusal.specs.declared.Refusal.TheVariants.{ShortRoom}
 
 abbrev pub cell_at : List ℕ → ℕ → ℕ → ℕ
 cell_at cells x y = get_or cells (x * 32 + y) 0
@@ -25,6 +25,6 @@ labels_in labels p = record { kind = get_or labels (2 * p) 0; argument = get_or 
 abbrev pub table_in : List ℕ → List ℕ → ℕ → ℕ → ℕ → List ℕ
 table_in cells labels nul steps k = words_of (arcs_in cells nul) (labels_in labels) k steps
 
-pub data Emits (ws old : List ℕ) : Emitted → List ℕ → Type 0 where
-  written : {n : ℕ} {new : List ℕ} → n ≡ length ws → length ws ≤ length old → new ≡ ws ++ drop (length ws) old → Emits ws old (Written n) new
-  short : {n : ℕ} {new : List ℕ} → n ≡ length ws → length old < length ws → new ≡ old → Emits ws old (Short n) new
+pub data Emits (ws old : List ℕ) : Result ℕ Refusal → List ℕ → Type 0 where
+  written : {n : ℕ} {new : List ℕ} → n ≡ length ws → length ws ≤ length old → new ≡ ws ++ drop (length ws) old → Emits ws old (Ok n) new
+  short : {n : ℕ} {new : List ℕ} → n ≡ length ws → length old < length ws → new ≡ old → Emits ws old (Err (ShortRoom n)) new

@@ -1,9 +1,14 @@
-// Files that a program is given by name: the line that names one, opening it, and saying why it cannot be opened.
+// Files that a program is given by name: the work on each of them, the line that names one, opening it, and saying why it cannot be opened.
 // Nothing is allocated. An error is one of opening, reading or writing; what a file or a terminal takes, no contract can say.
+// `each` holds 4,096 bytes of stack, beside what the work takes.
 #![tactic(auto)]
 
+ghost use Rattle.std.specs.Prelude.{OnOk};
+ghost use Rattle.files.specs.Work.{AllOk};
+
+use std::env::FillError;
 use std::io::{Print, Write};
-use std::rt::Files;
+use std::rt::{Env, Files};
 use std::{fs, io, str};
 
 // Bytes of an argument that are held. A longer one counts as empty.
@@ -43,4 +48,31 @@ pub fn announce<P: Print>(out: &P, path: &[u8]) -> io::Result<()> {
     out.write_all(b"file=")?;
     out.write_all(path)?;
     out.write_all(b"\n")
+}
+
+// Does `work` on each file that an argument of the program names, in their order. The line with its name stands before what the work
+// prints. A file that cannot be opened is named on standard error, and the next one comes; the first error of the work, or of writing
+// a name, ends the run.
+pub fn each<R, E, F>(rt: &R, errors: &E, mut work: F) -> io::Result<()>
+where
+    R: Env + Files + Print,
+    E: Print,
+    F: FnMut(&mut R::File) -> io::Result<()>,
+    requires { F.IsAlwaysCallable work }
+    ensures { OnOk result ((last : F) × AllOk F.step work last) }
+{
+    let mut argument = [0u8; LONGEST];
+    for i in 1..usize::MAX {
+        let path: &[u8] = match rt.arg(i, &mut argument) {
+            Ok(n) => &argument[..n],
+            Err(FillError::TooLong) => b"",
+            Err(FillError::NotPresent) => break,
+        };
+        announce(rt, path)?;
+        match open(rt, path) {
+            Ok(mut file) => work(&mut file)?,
+            Err(e) => refuse(errors, path, &e)?,
+        }
+    }
+    Ok(())
 }

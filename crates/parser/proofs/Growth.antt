@@ -17,7 +17,9 @@ use Rattle.grid.specs.Cells.{Linked, Joined}
 use Rattle.grid.specs.Grow.{Fresh, Built}
 use Rattle.grid.specs.Patterns.{grown_on, grown_reads, grown_nothing, grown_alt, grown_cat, grown_star, grown_charge, grown_capture}
 use Rattle.parser.specs.Grown.{Labelled, Grown, Turned, Stepped, Entered, Shut, Left}
-use Rattle.parser.specs.Result.{Wraps, round, curly}
+use Rattle.parser.specs.Brackets.{wrapped}
+use Rattle.parser.specs.declared.Bracket.{Bracket}
+use Rattle.parser.specs.declared.Bracket.TheVariants.{Group, Capture}
 
 -- as many labels as steps
 pub labels_count : (a : Pat) → length (labels_of a) ≡ steps_of a
@@ -163,10 +165,10 @@ grow_turn {turn} {a} {o} {st} {n} {m} {c₀} {c₁} {c₂} {l₀} {l₁} e g p t
 }
 
 -- what stands in a bracket
-pub wrap_steps : {v o r : ℕ} {wrap : Pat → Pat} {c₀ c₁ l₀ l₁ : List ℕ} → Wraps v wrap → Entered o v c₀ c₁ l₀ l₁ r → (a : Pat) → r + steps_of a + r ≡ steps_of (wrap a)
+pub wrap_steps : (b : Bracket) (o r : ℕ) (c₀ c₁ l₀ l₁ : List ℕ) → Entered o b c₀ c₁ l₀ l₁ r → (a : Pat) → r + steps_of a + r ≡ steps_of (wrapped b a)
 unfolding steps_of
-wrap_steps round e a = omega (arith, (e.group refl).0)
-wrap_steps (curly h) e a = omega (arith, (e.variable h).0)
+wrap_steps Group o r c₀ c₁ l₀ l₁ e a = omega (arith, e.0)
+wrap_steps (Capture v) o r c₀ c₁ l₀ l₁ e a = omega (arith, e.0)
 
 module _ {v o n r : ℕ} {a : Pat} {c₀ c₁ c₂ c₃ l₀ l₁ l₂ l₃ : List ℕ} (opening : Stepped o 1 v c₀ c₁ l₀ l₁ mark) (p : Grown a (o + 1) c₁ c₂ l₁ l₂ n) (s : Shut o v (steps_of a) n c₂ c₃ l₂ l₃ r) where
   fresh_inside : o < 31 → Fresh o c₀ → Fresh (o + 1) c₁
@@ -197,23 +199,11 @@ pub grow_group : {o : ℕ} {n : ℕ} {a : Pat} {c₀ c₁ l₀ l₁ : List ℕ} 
 unfolding steps_of labels_of core
 grow_group g = record { root = g.root; built = g.built; labelled = g.labelled }
 
-pub grow_wrap : {v o own st n r : ℕ} {wrap : Pat → Pat} {a : Pat} {c₀ c₁ c₂ c₃ l₀ l₁ l₂ l₃ : List ℕ} → st ≡ steps_of a → Wraps v wrap → Entered o v c₀ c₁ l₀ l₁ own
-    → Grown a (o + own) c₁ c₂ l₁ l₂ n → Left o v st n c₂ c₃ l₂ l₃ r → Grown (wrap a) o c₀ c₃ l₀ l₃ r
-grow_wrap {o = o} {own = own} e round i p j =
-    let x = i.group refl in
-    let y = j.group refl in
+pub grow_wrap : (b : Bracket) (own : ℕ) {o st n r : ℕ} {a : Pat} {c₀ c₁ c₂ c₃ l₀ l₁ l₂ l₃ : List ℕ} → st ≡ steps_of a → Entered o b c₀ c₁ l₀ l₁ own
+    → Grown a (o + own) c₁ c₂ l₁ l₂ n → Left o b st n c₂ c₃ l₂ l₃ r → Grown (wrapped b a) o c₀ c₃ l₀ l₃ r
+grow_wrap Group own {o = o} e x p y =
     let z : o + own ≡ o = omega (arith, x.0) in
     rw (y.0, y.1, y.2) (grow_group (rw (z, x.1, x.2) at p))
-grow_wrap {o = o} {own = own} e (curly h) i p j =
-    let x = i.variable h in
+grow_wrap (Capture v) own {o = o} e x p y =
     let z : o + own ≡ o + 1 = omega (arith, x.0) in
-    grow_capture x.1 (rw z at p) (rw e at (j.variable h))
-
-pub at_mark : {o k v n : ℕ} {c₀ c₁ l₀ l₁ : List ℕ} → Stepped o k v c₀ c₁ l₀ l₁ n → Stepped o k v c₀ c₁ l₀ l₁ mark
-at_mark s = record { root = refl; leaf = s.leaf; labelled = s.labelled }
-
-pub shut_as : {o v st nul x y r : ℕ} {c₀ c₁ c₂ c₃ l₀ l₁ : List ℕ} → Stepped (o + 1 + st) 2 v c₀ c₁ l₀ l₁ x → (y ≡ joint nul x) × Joined (o + 1) (o + 1 + st) nul x c₁ c₂
-    → (r ≡ joint mark y) × Joined o (o + 1) mark y c₂ c₃ → Shut o v st nul c₀ c₃ l₀ l₁ r
-shut_as {o} {v} {st} {nul} {x} {y} {r} {c₀} {c₁} {c₂} s i j =
-    let e : y ≡ joint nul mark = i.0 ∙ ap (λ (z : ℕ). joint nul z) s.root in
-    record { one = c₁; two = c₂; closed = at_mark s; inner = rw s.root at i.1; outer = rw e at j.1; root = rw e at j.0 }
+    grow_capture x.1 (rw z at p) (rw e at y)

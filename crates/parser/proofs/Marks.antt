@@ -13,10 +13,8 @@ use Rattle.pattern.specs.Machine.{Todo, St, after, ch1, ch2, ch3, dead, digit, s
 use Rattle.pattern.specs.Found.{PostsDone, PostsStuck, Marked}
 use Rattle.pattern.specs.Laws.{run_append}
 use Rattle.pattern.specs.Joins.{slice_join, run_join, join_rest}
-use Rattle.parser.specs.declared.Piece.TheVariants.{Here}
 use Rattle.parser.specs.declared.Part.{Part}
 use Rattle.parser.specs.Parts.{level}
-use Rattle.parser.specs.Result.{Marks, good}
 use Rattle.parser.proofs.Leaves.{one, then_more, snoc, to_digit, is_stands, digit_stands}
 
 zero_digit : Digit 48
@@ -86,8 +84,8 @@ module _ (s : List ℕ) (at : ℕ) (e : get_or s at 0 ≡ 35) where
             runs = λ k d a. ap (run k (after d a)) f ∙ rw (h1, h2, h);
           }
 
-pub charged : {s : List ℕ} {at n x y z a b c : ℕ} {p : Part} → a ≡ x → b ≡ y → c ≡ z → p ≡ level n 0 (three a b c) → Marked s at n (three x y z) → Marks s at (Here p)
-charged {n = n} {x = x} {y = y} {z = z} e f g h m = rw (h, e, f, g) (good {p = level n 0 (three x y z)} m)
+pub charged : {s : List ℕ} {at n x y z a b c : ℕ} {p : Part} → a ≡ x → b ≡ y → c ≡ z → p ≡ level n 0 (three a b c) → Marked s at n (three x y z) → Marked s at p.next p.nul
+charged e f g h m = rw (h, e, f, g) m
 
 -- none
 pub posts_none : (s : List ℕ) (at : ℕ) → at ≤ length s → (eqb (get_or s at 0) 42 ≡ false) × (eqb (get_or s at 0) 35 ≡ false) → PostsDone s at at (λ a. a)

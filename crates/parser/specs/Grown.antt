@@ -5,8 +5,8 @@
 --                         weight for no step, room or not
 -- Turned turn o mid ..    the same of what postfixes make of a tree, whose steps go from o up to mid
 -- Stepped o k v ..        a step of kind k and argument v
--- Entered o v .. r        the opening of the variable v, with r steps; a group's is that of variable 0, and has none
--- Left o v st nul .. r    the closing of the variable v, with an inside of st steps and weight nul for none; r is the weight of the whole
+-- Entered o b .. r        the opening of the bracket b, with r steps: a group has none
+-- Left o b st nul .. r    the closing of the bracket b, with an inside of st steps and weight nul for none; r is the weight of the whole
 use Rattle.std.specs.Prelude.{◌≡◌, List, [], ◌∷◌, ℕ, ◌+◌, ◌*◌, ◌≤◌, ◌<◌, length, get_or}
 use Rattle.weight.specs.Weight.{mark, joint}
 use Rattle.marks.specs.Labels.{Label}
@@ -17,6 +17,8 @@ use Rattle.arcs.specs.Core.{core}
 use Rattle.arcs.specs.Arcs.{arc}
 use Rattle.grid.specs.Cells.{Leafed, Joined}
 use Rattle.grid.specs.Grow.{Fresh, Built}
+use Rattle.parser.specs.declared.Bracket.{Bracket}
+use Rattle.parser.specs.declared.Bracket.TheVariants.{Group, Capture}
 
 pub record Labelled (ls : List Label) (o : ℕ) (l₀ l₁ : List ℕ) : Type 0 where
   pub kinds : (i : ℕ) → i < length ls → get_or l₁ (2 * (o + i)) 0 ≡ (nth_label ls i).kind
@@ -39,10 +41,9 @@ pub record Stepped (o k v : ℕ) (c₀ c₁ l₀ l₁ : List ℕ) (n : ℕ) : Ty
   pub leaf : o < 31 → Leafed o c₀ c₁
   pub labelled : o < 31 → Labelled (record { kind = k; argument = v } ∷ []) o l₀ l₁
 
-pub record Entered (o v : ℕ) (c₀ c₁ l₀ l₁ : List ℕ) (r : ℕ) : Type 0 where
-  pub few : r ≤ 1
-  pub group : v ≡ 0 → (r ≡ 0) × (c₁ ≡ c₀) × (l₁ ≡ l₀)
-  pub variable : 0 < v → (r ≡ 1) × Stepped o 1 v c₀ c₁ l₀ l₁ mark
+abbrev pub Entered : (o : ℕ) (b : Bracket) (c₀ c₁ l₀ l₁ : List ℕ) (r : ℕ) → Type 0
+Entered o Group c₀ c₁ l₀ l₁ r = (r ≡ 0) × (c₁ ≡ c₀) × (l₁ ≡ l₀)
+Entered o (Capture v) c₀ c₁ l₀ l₁ r = (r ≡ 1) × Stepped o 1 v c₀ c₁ l₀ l₁ mark
 
 -- after the closing step, the inside joined to it, and the opening step to both
 pub record Shut (o v st nul : ℕ) (c₀ c₁ l₀ l₁ : List ℕ) (r : ℕ) : Type 0 where
@@ -53,6 +54,6 @@ pub record Shut (o v st nul : ℕ) (c₀ c₁ l₀ l₁ : List ℕ) (r : ℕ) : 
   pub outer : Joined o (o + 1) mark (joint nul mark) two c₁
   pub root : r ≡ joint mark (joint nul mark)
 
-pub record Left (o v st nul : ℕ) (c₀ c₁ l₀ l₁ : List ℕ) (r : ℕ) : Type 0 where
-  pub group : v ≡ 0 → (r ≡ nul) × (c₁ ≡ c₀) × (l₁ ≡ l₀)
-  pub variable : 0 < v → Shut o v st nul c₀ c₁ l₀ l₁ r
+abbrev pub Left : (o : ℕ) (b : Bracket) (st nul : ℕ) (c₀ c₁ l₀ l₁ : List ℕ) (r : ℕ) → Type 0
+Left o Group st nul c₀ c₁ l₀ l₁ r = (r ≡ nul) × (c₁ ≡ c₀) × (l₁ ≡ l₀)
+Left o (Capture v) st nul c₀ c₁ l₀ l₁ r = Shut o v st nul c₀ c₁ l₀ l₁ r

@@ -1,18 +1,41 @@
 // The card's parser (01, "The pattern on the card"; number 3 of "Numbers, places and order of checks"). It builds the arcs as it goes:
 // pattern, term, factor and atom call one another, the bytes left falling. A byte is looked at a few times, and each join of two parts
-// passes twice over the 1,024 cells. Stack: 656 bytes for each open bracket, 416 for each factor of a term; 168 KB for 255 `(`.
+// passes twice over the 1,024 cells. Stack: 400 bytes for each open bracket, 288 for each factor of a term; 102 KB for 255 `(`.
 #![tactic(auto)]
 
-ghost use Rattle.std.specs.Prelude.{◌≡◌, ◌+◌, ◌≤◌, ◌<◌, max, length, get_or};
+ghost use Rattle.std.specs.Prelude.{◌≡◌, ◌+◌, ◌*◌, ◌≤◌, ◌<◌, max, length, get_or, true, false, MatchResult};
 ghost use Rattle.pattern.specs.Bytes.{shown};
 ghost use Rattle.pattern.specs.Grammar.{Pattern, Term, Factor, Atom};
-ghost use Rattle.pattern.specs.Machine.{starts, digit};
+ghost use Rattle.pattern.specs.Machine.{starts};
 ghost use Rattle.pattern.specs.Found.{AtomStop, FactorStop, TermStop, PatternStop};
+ghost use Rattle.refusal.specs.declared.Refusal.TheVariants.{NoPattern};
+ghost use Rattle.parser.specs.Brackets.{closed_by};
 ghost use Rattle.parser.specs.Result.{Opens, Marks, Posted, Parses, Answers};
 ghost use Rattle.parser.specs.Parts.{level, postfixed, beside, between};
 ghost use Rattle.parser.specs.Grown.{Stepped, Entered, Left};
 
 use pattern::Class;
+use refusal::Refusal;
+use weight::Weight;
+
+// The words of the arcs: from each of 32 states to each.
+const CELLS: usize = 1024;
+
+// The words of the labels, two for a step.
+const LABELS: usize = 64;
+
+// The steps for which there is room.
+const ROOM: usize = 31;
+
+// The kinds of a label: numbers, as they stand in the words of a table.
+const READS: u32 = 0;
+
+const OPENS: u32 = 1;
+
+const CLOSES: u32 = 2;
+
+// What has to be taken: no weight for no step. The mark, which is a weight and no flag: `lighter` and `sum` go on with it.
+const MUST: u32 = Weight::MARK.number;
 
 // A part of the text: the place after it, its steps, its nesting, and what is charged where it takes no step; the mark, if it must take one.
 #[derive(Clone, Copy)]
@@ -23,457 +46,430 @@ pub struct Part {
     pub nul: u32,
 }
 
-// A part of the text, or the place at which there is none.
-#[derive(Clone, Copy)]
-pub enum Piece {
-    Here { part: Part },
-    Fails { place: usize },
+impl Part {
+    // A part with no bracket.
+    fn level(next: usize, steps: usize, nul: u32) -> Part
+        ensures { result ≡ level next steps nul }
+    {
+        Part {
+            next,
+            steps,
+            deep: 0,
+            nul,
+        }
+    }
+
+    // The part goes on up to next, with another weight for no step.
+    fn postfixed(self, next: usize, nul: u32) -> Part
+        ensures { result ≡ postfixed self next nul }
+    {
+        Part { next, nul, ..self }
+    }
+
+    // Two parts side by side, with the weight of both for no step.
+    fn beside(self, second: Part, nul: u32) -> Part
+        requires { self.steps + second.steps ≤ 255 }
+        ensures { result ≡ beside self second nul }
+    {
+        Part {
+            next: second.next,
+            steps: self.steps + second.steps,
+            deep: self.deep.max(second.deep),
+            nul,
+        }
+    }
+
+    // What stands in a bracket, with the bracket's own step at each end.
+    fn between(self, own: usize, nul: u32) -> Part
+        requires { (self.next ≤ 255) × (self.steps ≤ 255) × (self.deep ≤ 255) × (own ≤ 1) }
+        ensures { result ≡ between self own nul }
+    {
+        Part {
+            next: self.next + 1,
+            steps: own + self.steps + own,
+            deep: 1 + self.deep,
+            nul,
+        }
+    }
 }
 
-// The numbers of the whole text's part, or the place of number 3.
+// A bracket, of a group or of a variable's capture.
 #[derive(Clone, Copy)]
-pub enum Parsed {
-    Good {
-        next: usize,
-        steps: usize,
-        deep: usize,
-        nul: u32,
-    },
-    Bad {
-        place: usize,
-    },
+enum Bracket {
+    Group,
+    Capture { variable: u32 },
 }
 
-// What the first bytes of an atom are. A group opens variable 0.
-#[derive(Clone, Copy)]
-pub enum Head {
-    Byte {
-        next: usize,
-        argument: u32,
-    },
-    Empty {
-        next: usize,
-    },
-    Open {
-        inside: usize,
-        close: u8,
-        variable: u32,
-    },
-    Wrong {
-        place: usize,
-    },
+impl Bracket {
+    fn close(self) -> u8
+        ensures { result ≡ closed_by self }
+    {
+        match self {
+            Bracket::Group => b')',
+            Bracket::Capture { variable: _ } => b'}',
+        }
+    }
 }
 
-// Past the end as if a byte 0 stood there, which stands nowhere in a pattern.
-fn byte_at(text: &[u8], at: usize) -> u8
-    ensures { result ≡ get_or text.now at 0 }
+// What the first bytes of an atom are.
+#[derive(Clone, Copy)]
+enum Head {
+    Byte { next: usize, argument: u32 },
+    Empty { next: usize },
+    Open { inside: usize, bracket: Bracket },
+}
+
+// The only refusal here.
+fn no_pattern(place: usize) -> Refusal
+    requires { place < 512 }
+    ensures { result ≡ NoPattern place }
 {
-    if at < text.len() { text[at] } else { 0 }
+    Refusal::NoPattern {
+        place: place as u32,
+    }
+}
+
+// What has to hold at that place.
+fn demand(holds: bool, place: usize) -> Result<(), Refusal>
+    requires { place < 512 }
+    ensures { MatchResult result (λ _. holds ≡ true) (λ e. (holds ≡ false) × (e ≡ NoPattern place)) }
+{
+    if holds {
+        Ok(())
+    } else {
+        Err(no_pattern(place))
+    }
 }
 
 fn printable(b: u8) -> bool
     ensures { result ≡ shown b }
 {
-    if b < 0x20 {
-        return false;
-    }
-    b <= 0x7E
+    matches!(b, 0x20..=0x7E)
 }
 
-fn decimal(b: u8) -> bool
-    ensures { result ≡ digit b }
+// The bytes from lo to hi as a label has them.
+fn bytes(lo: u8, hi: u8) -> u32
+    ensures { result ≡ lo * 256 + hi }
 {
-    if b < b'0' {
-        return false;
-    }
-    b <= b'9'
+    lo as u32 * 256 + hi as u32
 }
 
-fn larger(a: usize, b: usize) -> usize
-    ensures { result ≡ max a b }
-{
-    if a < b { b } else { a }
-}
-
-// At a `\`.
-fn escape(text: &[u8], at: usize, k: u32) -> Head
-    requires { (length text.now ≤ 255) × (at ≤ length text.now) × (get_or text.now at 0 ≡ 92) }
-    ensures { Opens k text.now at result }
-{
-    let second = at + 1;
-    let b = byte_at(text, second);
-    if printable(b) {
-        Head::Byte {
-            next: second + 1,
-            argument: b as u32 * 256 + b as u32,
-        }
-    } else {
-        Head::Wrong { place: second }
-    }
-}
-
-// At a `[`.
-fn ranged(text: &[u8], at: usize, k: u32) -> Head
-    requires { (length text.now ≤ 255) × (at ≤ length text.now) × (get_or text.now at 0 ≡ 91) }
-    ensures { Opens k text.now at result }
-{
-    let low = at + 1;
-    let lo = byte_at(text, low);
-    if !printable(lo) {
-        return Head::Wrong { place: low };
-    }
-    let dash = low + 1;
-    if byte_at(text, dash) != b'-' {
-        return Head::Wrong { place: dash };
-    }
-    let high = dash + 1;
-    let hi = byte_at(text, high);
-    if !printable(hi) {
-        return Head::Wrong { place: high };
-    }
-    if hi < lo {
-        return Head::Wrong { place: high };
-    }
-    let end = high + 1;
-    if byte_at(text, end) != b']' {
-        return Head::Wrong { place: end };
-    }
-    Head::Byte {
-        next: end + 1,
-        argument: lo as u32 * 256 + hi as u32,
-    }
-}
-
-// At a `{`, where there is a variable.
-fn captured(text: &[u8], at: usize, k: u32) -> Head
-    requires { (length text.now ≤ 255) × (at ≤ length text.now) × (get_or text.now at 0 ≡ 123) × (0 < k) }
-    ensures { Opens k text.now at result }
-{
-    let which = at + 1;
-    let d = byte_at(text, which);
-    if d < b'1' {
-        return Head::Wrong { place: which };
-    }
-    let variable = (d - b'0') as u32;
-    if k < variable {
-        return Head::Wrong { place: which };
-    }
-    let colon = which + 1;
-    if byte_at(text, colon) != b':' {
-        return Head::Wrong { place: colon };
-    }
-    Head::Open {
-        inside: colon + 1,
-        close: b'}',
-        variable,
-    }
-}
-
-fn opening(text: &[u8], at: usize, k: u32) -> Head
-    requires { (length text.now ≤ 255) × (at ≤ length text.now) }
-    ensures { Opens k text.now at result }
-{
-    let b = byte_at(text, at);
-    match pattern::class_of(b) {
-        Class::Plain => Head::Byte {
-            next: at + 1,
-            argument: b as u32 * 256 + b as u32,
-        },
-        Class::Illegal => Head::Wrong { place: at },
-        Class::Reserved => match b {
-            b'\\' => escape(text, at, k),
-            b'.' => Head::Byte {
-                next: at + 1,
-                argument: 255,
-            },
-            b'~' => Head::Empty { next: at + 1 },
-            b'[' => ranged(text, at, k),
-            b'(' => Head::Open {
-                inside: at + 1,
-                close: b')',
-                variable: 0,
-            },
-            b'{' => {
-                if k == 0 {
-                    Head::Wrong { place: at }
-                } else {
-                    captured(text, at, k)
-                }
-            }
-            _ => Head::Wrong { place: at },
-        },
-    }
-}
-
-// Whether an atom begins with b.
-fn begins(b: u8, k: u32) -> bool
-    ensures { result ≡ starts k b }
-{
-    match pattern::class_of(b) {
-        Class::Plain => true,
-        Class::Illegal => false,
-        Class::Reserved => match b {
-            b'\\' | b'.' | b'~' | b'[' | b'(' => true,
-            b'{' => 0 < k,
-            _ => false,
-        },
-    }
-}
-
-// A part with no bracket.
-fn leaf(next: usize, steps: usize, nul: u32) -> Part
-    ensures { result ≡ level next steps nul }
-{
-    Part {
-        next,
-        steps,
-        deep: 0,
-        nul,
-    }
-}
-
-// A part that goes on up to next, with another weight for no step.
-fn put_on(part: Part, next: usize, nul: u32) -> Part
-    ensures { result ≡ postfixed part next nul }
-{
-    Part {
-        next,
-        steps: part.steps,
-        deep: part.deep,
-        nul,
-    }
-}
-
-// Two parts side by side, with the weight of both for no step.
-fn beside(first: Part, second: Part, nul: u32) -> Part
-    requires { first.steps + second.steps ≤ 255 }
-    ensures { result ≡ beside first second nul }
-{
-    Part {
-        next: second.next,
-        steps: first.steps + second.steps,
-        deep: larger(first.deep, second.deep),
-        nul,
-    }
-}
-
-// What stands in a bracket, with the bracket's own step at each end.
-fn between(part: Part, own: usize, nul: u32) -> Part
-    requires { (part.next ≤ 255) × (part.steps ≤ 255) × (part.deep ≤ 255) × (own ≤ 1) }
-    ensures { result ≡ between part own nul }
-{
-    Part {
-        next: part.next + 1,
-        steps: own + part.steps + own,
-        deep: 1 + part.deep,
-        nul,
-    }
-}
-
-// At a `#`: the weight mark as a part with no step.
-fn mark(text: &[u8], at: usize) -> Piece
-    requires { (length text.now ≤ 255) × (at ≤ length text.now) × (get_or text.now at 0 ≡ 35) }
-    ensures { Marks text.now at result }
-{
-    let one = at + 1;
-    let x = byte_at(text, one);
-    if !decimal(x) {
-        return Piece::Fails { place: one };
-    }
-    let two = one + 1;
-    let y = byte_at(text, two);
-    if !decimal(y) {
-        return Piece::Fails { place: two };
-    }
-    let three = two + 1;
-    let z = byte_at(text, three);
-    if !decimal(z) {
-        return Piece::Fails { place: three };
-    }
-    let weight = (x - b'0') as u32 * 100 + (y - b'0') as u32 * 10 + (z - b'0') as u32;
-    Piece::Here {
-        part: leaf(three + 1, 0, weight),
-    }
-}
-
+// The arcs and the labels go side by side: a struct that held both would have each contract promise that it holds the same two still.
 // Step o, where there is room for it: its arcs and its label. A part that is one step must take it.
-fn step(cells: &mut [u32], labels: &mut [u32], o: usize, kind: u32, argument: u32) -> u32
-    requires { (1024 ≤ length cells.old) × (64 ≤ length labels.old) }
+fn step(
+    cells: &mut [u32; CELLS],
+    labels: &mut [u32; LABELS],
+    o: usize,
+    kind: u32,
+    argument: u32,
+) -> u32
     ensures { Stepped o kind argument cells.old cells.new labels.old labels.new result }
 {
-    if o < 31 {
+    if o < ROOM {
         labels[2 * o] = kind;
         labels[2 * o + 1] = argument;
         return grid::leaf(cells, o);
     }
-    4294967295
+    MUST
 }
 
-// The step of a `{`, and how many that is; a `(`, variable 0, has none.
-fn enter(cells: &mut [u32], labels: &mut [u32], o: usize, variable: u32) -> usize
-    requires { (1024 ≤ length cells.old) × (64 ≤ length labels.old) }
-    ensures { Entered o variable cells.old cells.new labels.old labels.new result }
+// The step of an opening bracket, and how many that is: a group has none.
+fn enter(cells: &mut [u32; CELLS], labels: &mut [u32; LABELS], o: usize, bracket: Bracket) -> usize
+    ensures few { result ≤ 1 }
+    ensures by { Entered o bracket cells.old cells.new labels.old labels.new result }
 {
-    if variable == 0 {
-        return 0;
+    match bracket {
+        Bracket::Group => 0,
+        Bracket::Capture { variable } => {
+            step(cells, labels, o, OPENS, variable);
+            1
+        }
     }
-    step(cells, labels, o, 1, variable);
-    1
 }
 
-// The step of a `}`, and the inside joined between the two.
-fn leave(cells: &mut [u32], labels: &mut [u32], o: usize, variable: u32, part: Part) -> u32
-    requires { (o + part.steps ≤ 255) × (1024 ≤ length cells.old) × (64 ≤ length labels.old) }
-    ensures { Left o variable part.steps part.nul cells.old cells.new labels.old labels.new result }
+// The step of a closing bracket, and the inside joined between the two.
+fn leave(
+    cells: &mut [u32; CELLS],
+    labels: &mut [u32; LABELS],
+    o: usize,
+    bracket: Bracket,
+    part: &Part,
+) -> u32
+    requires { o + part.now.steps ≤ 255 }
+    ensures { Left o bracket part.now.steps part.now.nul cells.old cells.new labels.old labels.new result }
 {
-    if variable == 0 {
-        return part.nul;
+    match bracket {
+        Bracket::Group => part.nul,
+        Bracket::Capture { variable } => {
+            let mid = o + 1;
+            let end = mid + part.steps;
+            let shut = step(cells, labels, end, CLOSES, variable);
+            let inner = grid::join(cells, mid, end, part.nul, shut);
+            grid::join(cells, o, mid, MUST, inner)
+        }
     }
-    let mid = o + 1;
-    let end = mid + part.steps;
-    let shut = step(cells, labels, end, 2, variable);
-    let inner = grid::join(cells, mid, end, part.nul, shut);
-    grid::join(cells, o, mid, 4294967295, inner)
 }
 
-// The postfixes after a part whose steps are numbered from o on.
-fn postfixes(text: &[u8], cells: &mut [u32], o: usize, part: Part) -> Piece
-    requires { (length text.now ≤ 255) × (part.next ≤ length text.now) × (o + part.steps ≤ 255) × (1024 ≤ length cells.old) }
-    ensures { Posted text.now o part cells.old cells.new result }
-{
-    let b = byte_at(text, part.next);
-    if b == b'*' {
-        let passes = grid::again(cells, o);
-        return postfixes(text, cells, o, put_on(part, part.next + 1, passes));
+// A text to be read, with k variables. It is lent whole to each of its parts.
+#[derive(Drop)]
+struct Text<'a> {
+    bytes: &'a [u8],
+    k: u32,
+    ghost short: { length bytes.now ≤ 255 },
+}
+
+impl Text<'_> {
+    // Past the end as if a byte 0 stood there, which stands nowhere in a pattern: an `Option` would be taken apart at each of ten uses.
+    fn byte_at(&self, at: usize) -> u8
+        ensures { result ≡ get_or self.now.bytes.now at 0 }
+    {
+        if at < self.bytes.len() {
+            self.bytes[at]
+        } else {
+            0
+        }
     }
-    if b == b'#' {
-        return match mark(text, part.next) {
-            Piece::Fails { place } => Piece::Fails { place },
-            Piece::Here { part: weight } => {
+
+    // At a `\`.
+    fn escape(&self, at: usize) -> Result<Head, Refusal>
+        requires { (at ≤ length self.now.bytes.now) × (get_or self.now.bytes.now at 0 ≡ 92) }
+        ensures { Opens self.now.k self.now.bytes.now at result }
+    {
+        let second = at + 1;
+        let b = self.byte_at(second);
+        demand(printable(b), second)?;
+        Ok(Head::Byte {
+            next: second + 1,
+            argument: bytes(b, b),
+        })
+    }
+
+    // At a `[`.
+    fn ranged(&self, at: usize) -> Result<Head, Refusal>
+        requires { (at ≤ length self.now.bytes.now) × (get_or self.now.bytes.now at 0 ≡ 91) }
+        ensures { Opens self.now.k self.now.bytes.now at result }
+    {
+        let low = at + 1;
+        let lo = self.byte_at(low);
+        demand(printable(lo), low)?;
+        let dash = low + 1;
+        demand(self.byte_at(dash) == b'-', dash)?;
+        let high = dash + 1;
+        let hi = self.byte_at(high);
+        demand(printable(hi), high)?;
+        demand(lo <= hi, high)?;
+        let end = high + 1;
+        demand(self.byte_at(end) == b']', end)?;
+        Ok(Head::Byte {
+            next: end + 1,
+            argument: bytes(lo, hi),
+        })
+    }
+
+    // At a `{`.
+    fn captured(&self, at: usize) -> Result<Head, Refusal>
+        requires { (at ≤ length self.now.bytes.now) × (get_or self.now.bytes.now at 0 ≡ 123) × (0 < self.now.k) }
+        ensures { Opens self.now.k self.now.bytes.now at result }
+    {
+        let which = at + 1;
+        let d = self.byte_at(which);
+        demand(b'1' <= d, which)?;
+        let variable = (d - b'0') as u32;
+        demand(variable <= self.k, which)?;
+        let colon = which + 1;
+        demand(self.byte_at(colon) == b':', colon)?;
+        Ok(Head::Open {
+            inside: colon + 1,
+            bracket: Bracket::Capture { variable },
+        })
+    }
+
+    fn opening(&self, at: usize) -> Result<Head, Refusal>
+        requires { at ≤ length self.now.bytes.now }
+        ensures { Opens self.now.k self.now.bytes.now at result }
+    {
+        let next = at + 1;
+        let b = self.byte_at(at);
+        match pattern::class_of(b) {
+            Class::Plain => Ok(Head::Byte {
+                next,
+                argument: bytes(b, b),
+            }),
+            Class::Illegal => Err(no_pattern(at)),
+            Class::Reserved => match b {
+                b'\\' => self.escape(at),
+                b'.' => Ok(Head::Byte {
+                    next,
+                    argument: bytes(0, 255),
+                }),
+                b'~' => Ok(Head::Empty { next }),
+                b'[' => self.ranged(at),
+                b'(' => Ok(Head::Open {
+                    inside: next,
+                    bracket: Bracket::Group,
+                }),
+                b'{' => {
+                    demand(0 < self.k, at)?;
+                    self.captured(at)
+                }
+                _ => Err(no_pattern(at)),
+            },
+        }
+    }
+
+    // Whether an atom begins with b.
+    fn begins(&self, b: u8) -> bool
+        ensures { result ≡ starts self.now.k b }
+    {
+        match pattern::class_of(b) {
+            Class::Plain => true,
+            Class::Illegal => false,
+            Class::Reserved => match b {
+                b'\\' | b'.' | b'~' | b'[' | b'(' => true,
+                b'{' => 0 < self.k,
+                _ => false,
+            },
+        }
+    }
+
+    // At a `#`: the weight mark as a part with no step.
+    fn mark(&self, at: usize) -> Result<Part, Refusal>
+        requires { (at ≤ length self.now.bytes.now) × (get_or self.now.bytes.now at 0 ≡ 35) }
+        ensures { Marks self.now.bytes.now at result }
+    {
+        let one = at + 1;
+        let x = self.byte_at(one);
+        demand(x.is_ascii_digit(), one)?;
+        let two = one + 1;
+        let y = self.byte_at(two);
+        demand(y.is_ascii_digit(), two)?;
+        let three = two + 1;
+        let z = self.byte_at(three);
+        demand(z.is_ascii_digit(), three)?;
+        let weight = (x - b'0') as u32 * 100 + (y - b'0') as u32 * 10 + (z - b'0') as u32;
+        Ok(Part::level(three + 1, 0, weight))
+    }
+
+    // The postfixes after a part whose steps are numbered from o on.
+    fn postfixes(&self, part: Part, cells: &mut [u32; CELLS], o: usize) -> Result<Part, Refusal>
+        requires { (part.next ≤ length self.now.bytes.now) × (o + part.steps ≤ 255) }
+        ensures { Posted self.now.bytes.now o part cells.old cells.new result }
+    {
+        match self.byte_at(part.next) {
+            b'*' => {
+                let passes = grid::again(cells, o);
+                self.postfixes(part.postfixed(part.next + 1, passes), cells, o)
+            }
+            b'#' => {
+                let weight = self.mark(part.next)?;
                 let charged = grid::join(cells, o, o + part.steps, part.nul, weight.nul);
-                postfixes(text, cells, o, put_on(part, weight.next, charged))
+                self.postfixes(part.postfixed(weight.next, charged), cells, o)
             }
-        };
-    }
-    Piece::Here { part }
-}
-
-#[cycle(atom_factor_pattern_term)]
-fn atom(text: &[u8], at: usize, k: u32, cells: &mut [u32], labels: &mut [u32], o: usize) -> Piece
-    requires { (length text.now ≤ 255) × (at ≤ length text.now) × (o ≤ at) × (1024 ≤ length cells.old) × (64 ≤ length labels.old) }
-    ensures { Parses Atom AtomStop k text.now at o cells.old cells.new labels.old labels.new result }
-{
-    match opening(text, at, k) {
-        Head::Wrong { place } => Piece::Fails { place },
-        Head::Empty { next } => Piece::Here {
-            part: leaf(next, 0, 0),
-        },
-        Head::Byte { next, argument } => {
-            let nul = step(cells, labels, o, 0, argument);
-            Piece::Here {
-                part: leaf(next, 1, nul),
-            }
+            _ => Ok(part),
         }
-        Head::Open {
-            inside,
-            close,
-            variable,
-        } => {
-            let own = enter(cells, labels, o, variable);
-            match pattern(text, inside, k, cells, labels, o + own) {
-                Piece::Fails { place } => Piece::Fails { place },
-                Piece::Here { part } => {
-                    if byte_at(text, part.next) != close {
-                        return Piece::Fails { place: part.next };
-                    }
-                    let nul = leave(cells, labels, o, variable, part);
-                    Piece::Here {
-                        part: between(part, own, nul),
-                    }
-                }
+    }
+
+    // Four functions in a cycle, as the grammar has it: the form of docs/DECISIONS.md.
+    #[cycle(atom_factor_pattern_term)]
+    fn atom(
+        &self,
+        at: usize,
+        cells: &mut [u32; CELLS],
+        labels: &mut [u32; LABELS],
+        o: usize,
+    ) -> Result<Part, Refusal>
+        requires { (at ≤ length self.now.bytes.now) × (o ≤ at) }
+        ensures { Parses Atom AtomStop self.now.k self.now.bytes.now at o cells.old cells.new labels.old labels.new result }
+    {
+        // Taken apart here and not by `?`, which holds the head twice: 32 bytes of stack more for each factor.
+        match self.opening(at) {
+            Err(refusal) => Err(refusal),
+            Ok(Head::Empty { next }) => Ok(Part::level(next, 0, 0)),
+            Ok(Head::Byte { next, argument }) => {
+                let nul = step(cells, labels, o, READS, argument);
+                Ok(Part::level(next, 1, nul))
+            }
+            Ok(Head::Open { inside, bracket }) => {
+                let own = enter(cells, labels, o, bracket);
+                let part = self.pattern(inside, cells, labels, o + own)?;
+                demand(self.byte_at(part.next) == bracket.close(), part.next)?;
+                let nul = leave(cells, labels, o, bracket, &part);
+                Ok(part.between(own, nul))
             }
         }
     }
-}
 
-#[cycle(atom_factor_pattern_term)]
-fn factor(text: &[u8], at: usize, k: u32, cells: &mut [u32], labels: &mut [u32], o: usize) -> Piece
-    requires { (length text.now ≤ 255) × (at ≤ length text.now) × (o ≤ at) × (1024 ≤ length cells.old) × (64 ≤ length labels.old) }
-    ensures { Parses Factor FactorStop k text.now at o cells.old cells.new labels.old labels.new result }
-{
-    match atom(text, at, k, cells, labels, o) {
-        Piece::Fails { place } => Piece::Fails { place },
-        Piece::Here { part } => postfixes(text, cells, o, part),
+    #[cycle(atom_factor_pattern_term)]
+    fn factor(
+        &self,
+        at: usize,
+        cells: &mut [u32; CELLS],
+        labels: &mut [u32; LABELS],
+        o: usize,
+    ) -> Result<Part, Refusal>
+        requires { (at ≤ length self.now.bytes.now) × (o ≤ at) }
+        ensures { Parses Factor FactorStop self.now.k self.now.bytes.now at o cells.old cells.new labels.old labels.new result }
+    {
+        let part = self.atom(at, cells, labels, o)?;
+        self.postfixes(part, cells, o)
     }
-}
 
-#[cycle(atom_factor_pattern_term)]
-fn term(text: &[u8], at: usize, k: u32, cells: &mut [u32], labels: &mut [u32], o: usize) -> Piece
-    requires { (length text.now ≤ 255) × (at ≤ length text.now) × (o ≤ at) × (1024 ≤ length cells.old) × (64 ≤ length labels.old) }
-    ensures { Parses Term TermStop k text.now at o cells.old cells.new labels.old labels.new result }
-{
-    match factor(text, at, k, cells, labels, o) {
-        Piece::Fails { place } => Piece::Fails { place },
-        Piece::Here { part } => {
-            if !begins(byte_at(text, part.next), k) {
-                return Piece::Here { part };
-            }
-            let mid = o + part.steps;
-            match term(text, part.next, k, cells, labels, mid) {
-                Piece::Fails { place } => Piece::Fails { place },
-                Piece::Here { part: rest } => {
-                    let both = grid::join(cells, o, mid, part.nul, rest.nul);
-                    Piece::Here {
-                        part: beside(part, rest, both),
-                    }
-                }
-            }
+    #[cycle(atom_factor_pattern_term)]
+    fn term(
+        &self,
+        at: usize,
+        cells: &mut [u32; CELLS],
+        labels: &mut [u32; LABELS],
+        o: usize,
+    ) -> Result<Part, Refusal>
+        requires { (at ≤ length self.now.bytes.now) × (o ≤ at) }
+        ensures { Parses Term TermStop self.now.k self.now.bytes.now at o cells.old cells.new labels.old labels.new result }
+    {
+        let part = self.factor(at, cells, labels, o)?;
+        if !self.begins(self.byte_at(part.next)) {
+            return Ok(part);
         }
+        let mid = o + part.steps;
+        let rest = self.term(part.next, cells, labels, mid)?;
+        let both = grid::join(cells, o, mid, part.nul, rest.nul);
+        Ok(part.beside(rest, both))
     }
-}
 
-#[cycle(atom_factor_pattern_term)]
-fn pattern(text: &[u8], at: usize, k: u32, cells: &mut [u32], labels: &mut [u32], o: usize) -> Piece
-    requires { (length text.now ≤ 255) × (at ≤ length text.now) × (o ≤ at) × (1024 ≤ length cells.old) × (64 ≤ length labels.old) }
-    ensures { Parses Pattern PatternStop k text.now at o cells.old cells.new labels.old labels.new result }
-{
-    match term(text, at, k, cells, labels, o) {
-        Piece::Fails { place } => Piece::Fails { place },
-        Piece::Here { part } => {
-            if byte_at(text, part.next) != b'|' {
-                return Piece::Here { part };
-            }
-            match pattern(text, part.next + 1, k, cells, labels, o + part.steps) {
-                Piece::Fails { place } => Piece::Fails { place },
-                Piece::Here { part: rest } => {
-                    let either = grid::lighter(part.nul, rest.nul);
-                    Piece::Here {
-                        part: beside(part, rest, either),
-                    }
-                }
-            }
+    #[cycle(atom_factor_pattern_term)]
+    fn pattern(
+        &self,
+        at: usize,
+        cells: &mut [u32; CELLS],
+        labels: &mut [u32; LABELS],
+        o: usize,
+    ) -> Result<Part, Refusal>
+        requires { (at ≤ length self.now.bytes.now) × (o ≤ at) }
+        ensures { Parses Pattern PatternStop self.now.k self.now.bytes.now at o cells.old cells.new labels.old labels.new result }
+    {
+        let part = self.term(at, cells, labels, o)?;
+        if self.byte_at(part.next) != b'|' {
+            return Ok(part);
         }
+        let rest = self.pattern(part.next + 1, cells, labels, o + part.steps)?;
+        let either = grid::lighter(part.nul, rest.nul);
+        Ok(part.beside(rest, either))
     }
 }
 
-// The whole text: a pattern and nothing after it, or number 3 and its place.
-pub fn parse(text: &[u8], k: u32, cells: &mut [u32], labels: &mut [u32]) -> Parsed
+// The whole text: a pattern and nothing after it, or number 3 and its place. The cells and the labels, two words for each, are lent as
+// slices: so the clauses promise it, and an array type would ask more of callers.
+pub fn parse(text: &[u8], k: u32, cells: &mut [u32], labels: &mut [u32]) -> Result<Part, Refusal>
     requires { (length text.now ≤ 255) × (1024 ≤ length cells.old) × (64 ≤ length labels.old) }
     ensures { Answers k text.now cells.new labels.new result }
 {
+    let cells = cells.first_chunk_mut().unwrap();
+    let labels = labels.first_chunk_mut().unwrap();
     grid::clear(cells);
-    match pattern(text, 0, k, cells, labels, 0) {
-        Piece::Fails { place } => Parsed::Bad { place },
-        Piece::Here { part } => {
-            if part.next < text.len() {
-                return Parsed::Bad { place: part.next };
-            }
-            Parsed::Good {
-                next: part.next,
-                steps: part.steps,
-                deep: part.deep,
-                nul: part.nul,
-            }
-        }
-    }
+    let whole = Text { bytes: text, k };
+    let part = whole.pattern(0, cells, labels, 0)?;
+    demand(part.next == text.len(), part.next)?;
+    // An array keeps its length: what it was lent from ends as it does.
+    prove!(cells.len() == CELLS);
+    prove!(labels.len() == LABELS);
+    Ok(part)
 }

@@ -2,3 +2,4 @@ pub mod Text
 pub mod Puts
 pub mod Decimal
 pub mod Most
+pub mod Page

@@ -2,7 +2,7 @@
 --
 -- refused_so      a card that is refused by compiling is refused so by its text
 -- read_so         what is read by the table of a card is what its text says
-use Rattle.std.specs.Prelude.{◌≡◌, refl, List, ◌++◌, ℕ, ◌≤◌, ◌<◌, length, drop}
+use Rattle.std.specs.Prelude.{◌≡◌, refl, List, ◌++◌, ℕ, ◌≤◌, ◌<◌, length, drop, Result, Ok}
 use Rattle.std.proofs.Common.{ap, ◌∙◌, subst, arith}
 use Rattle.std.proofs.Math.Decide.{dec_le}
 use Rattle.table.specs.Table.{RightTable, most_vars, most_bytes}
@@ -11,8 +11,7 @@ use Rattle.layout.specs.Layout.{TableOf}
 use Rattle.layout.specs.Words.{table_words}
 use Rattle.layout.specs.Exact.{exact, table_one}
 use Rattle.layout.specs.Reading.{is_right, best_text, none_text}
-use Rattle.compiler.specs.declared.Compiled.{Compiled}
-use Rattle.compiler.specs.declared.Compiled.TheVariants.{Written, Refused}
+use Rattle.refusal.specs.declared.Refusal.{Refusal}
 use Rattle.compiler.specs.Answers.{most_text, most_nesting, most_steps, compiled, CompilesCard, Compiles}
 use Rattle.compiler.specs.Answers as made
 use Rattle.compiler.specs.Room.{room, room_enough}
@@ -117,9 +116,10 @@ read_so {card} {rm} {ex} {line} {a = a} big c b = go c refl
     go (made.wrong_two r o f e) i = absurd (omega (arith, ap (λ (x : made.Printed). x.number) i))
     go (made.right k m) i = text.right k (inner m i)
 
--- by what the code has in hand
-pub refused_as : {card rm ex line : List ℕ} {r : Compiled} {n q : ℕ} → length rm ≡ room → r ≡ Refused n q → CompilesCard card rm ex (compiled r) → CardAnswer card line (refusal n q)
-refused_as {card} {rm} {ex} big e c = refused_so big (subst (λ (x : Compiled). CompilesCard card rm ex (compiled x)) e c)
+-- and whatever prints as its number and place
+pub refused_as : {card rm ex line : List ℕ} {n q : ℕ} {a : Printed} → length rm ≡ room → CompilesCard card rm ex (made.refusal n q) → a ≡ refusal n q → CardAnswer card line a
+refused_as big c e = rw e (refused_so big c)
 
-pub read_as : {card rm ex line : List ℕ} {r : Compiled} {n : ℕ} {a : Printed} → length rm ≡ room → r ≡ Written n → CompilesCard card rm ex (compiled r) → BestAnswer ex line a → CardAnswer card line a
-read_as {card} {rm} {ex} big e c b = read_so big (subst (λ (x : Compiled). CompilesCard card rm ex (compiled x)) e c) b
+-- by what the code has in hand
+pub read_as : {card rm ex line : List ℕ} {r : Result ℕ Refusal} {n : ℕ} {a : Printed} → length rm ≡ room → r ≡ Ok n → CompilesCard card rm ex (compiled r) → BestAnswer ex line a → CardAnswer card line a
+read_as {card} {rm} {ex} big e c b = read_so big (subst (λ (x : Result ℕ Refusal). CompilesCard card rm ex (compiled x)) e c) b

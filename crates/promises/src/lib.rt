@@ -5,7 +5,6 @@
 ghost use Rattle.reader.specs.Answers.{read as shown};
 ghost use Rattle.promises.specs.Reading.{CardAnswer};
 
-use compiler::Compiled;
 use reader::Answer;
 
 // Enough for every table of 31 steps: 32 states and 992 rows.
@@ -17,7 +16,7 @@ pub fn read_card(card: &[u8], line: &[u8]) -> Answer
 {
     let mut room = [0u32; ROOM];
     match compiler::compile_card(card, &mut room) {
-        Compiled::Refused { number, place } => Answer::Refused { number, place },
-        Compiled::Written { words } => reader::best_reading(&room, line),
+        Err(refusal) => refusal.into(),
+        Ok(_) => reader::best_reading(&room, line),
     }
 }

@@ -9,7 +9,10 @@
 -- Fails, FailsSet         number n could be given: 01's table of numbers, line by line. The lowest is given, with place 0
 -- BestAnswer ws line p    p is the answer to "the best reading of the line by the words ws"
 -- SetAnswer ws line t p   p is the answer to "the weight of the set t"
-use Rattle.std.specs.Prelude.{List, ℕ, ◌<◌, length}
+use Rattle.std.specs.Prelude.{List, ℕ, ◌<◌, length, Result, Ok, Err}
+use Rattle.refusal.specs.declared.Refusal.{Refusal}
+use Rattle.refusal.specs.Numbers.{number_of, place_of}
+use Rattle.weight.specs.declared.Weight.{Weight}
 use Rattle.weight.specs.Weight.{mark}
 use Rattle.spans.specs.declared.Spans.{Spans}
 use Rattle.spans.specs.Spans.{SetOfSpans, none}
@@ -18,8 +21,6 @@ use Rattle.runs.specs.Runs.{weight_of_set}
 use Rattle.best.specs.Best.{IsBest, IsNone}
 use Rattle.reader.specs.declared.Answer.{Answer}
 use Rattle.reader.specs.declared.Answer.TheVariants.{Reading, NoReading, Refused}
-use Rattle.reader.specs.declared.Weighed.{Weighed}
-use Rattle.reader.specs.declared.Weighed.TheVariants.{Weighs, Refused as Unweighed}
 
 pub data Name : Type 0 where
   found none_found refused : Name
@@ -46,9 +47,9 @@ read NoReading = no_reading
 read (Refused n p) = refusal n p
 
 -- a weight is answered for the set that was asked of
-abbrev pub weighed : Weighed → Printed
-weighed (Weighs w) = reading w.number none
-weighed (Unweighed n p) = refusal n p
+abbrev pub weighed : Result Weight Refusal → Printed
+weighed (Ok w) = reading w.number none
+weighed (Err r) = refusal (number_of r) (place_of r)
 
 -- numbers 7 and 8: when each could be given
 pub data Fails (ws line : List ℕ) : ℕ → Type 0 where

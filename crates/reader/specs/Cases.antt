@@ -1,42 +1,43 @@
 -- The cases of reading, one for each number and one for each answer: what the code has seen makes the answer right.
 --
--- Refuses         what `refused` answers: 7, 8 or 0
+-- Refuses         what `readable` answers: 7, 8 or no refusal
 -- open_ranges, pinned_ranges   the ranges that the two questions are asked with
-use Rattle.std.specs.Prelude.{◌≡◌, refl, Bool, true, false, ◌&&◌, List, [], ◌∷◌, ℕ, zero, suc, ◌+◌, ◌*◌, ◌≤◌, ◌<◌, eqb, leb, length}
-use Rattle.std.proofs.Common.{sym, ◌∙◌, arith}
-use Rattle.std.proofs.Math.Decide.{ℕ_discrete}
-use borrow.Author.Tests.{le-leb, lt-leb, eq-eqb, ne_eqb}
+use Rattle.std.specs.Prelude.{◌≡◌, refl, Bool, true, ◌&&◌, List, [], ◌∷◌, ℕ, zero, suc, ◌+◌, ◌*◌, ◌≤◌, ◌<◌, eqb, leb, length, Result, Ok, Err}
+use Rattle.std.proofs.Common.{sym, arith}
+use Rattle.refusal.specs.declared.Refusal.{Refusal}
+use Rattle.refusal.specs.declared.Refusal.TheVariants.{WrongTable, LongLine}
+use Rattle.refusal.specs.Numbers.{number_of, place_of}
 use Rattle.weight.specs.Weight.{mark}
 use Rattle.spans.specs.declared.Spans.{Spans}
-use Rattle.spans.specs.Spans.{SetOfSpans}
+use Rattle.spans.specs.Spans.{SetOfSpans, digits}
 use Rattle.table.specs.Table.{RightTable, automaton_of, most_bytes}
 use Rattle.togo.specs.Price.{base, allowed, answer}
 use Rattle.togo.specs.Sets.{Pinned}
 use Rattle.best.specs.Decode.{spans_of_key}
 use Rattle.best.specs.Questions.{Open, set_answer, best_answer, none_answer}
-use Rattle.reader.specs.Answers.{reading, no_reading, refusal, Fails, table, long, FailsSet, reading_it, no_set, BestAnswer, not_read, best, no_run, SetAnswer, not_weighed, weight}
+use Rattle.reader.specs.Answers.{reading, no_reading, refusal, Fails, table, long, FailsSet, reading_it, no_set, BestAnswer, not_read, best, no_run, SetAnswer, not_weighed, weight, weighed}
 use Rattle.spans.specs.Spans.{none}
 
--- the lowest of 7 and 8 that could be given, or 0
-pub data Refuses (ws line : List ℕ) : ℕ → Type 0 where
-  by : {n : ℕ} → 0 < n → Fails ws line n → ((m : ℕ) → m < n → Fails ws line m → ⊥) → Refuses ws line n
-  fits : RightTable ws → length line ≤ most_bytes → Refuses ws line 0
+-- the lowest of 7 and 8 that could be given, or none
+pub data Refuses (ws line : List ℕ) : Result (Unit {0}) Refusal → Type 0 where
+  by : {r : Refusal} → Fails ws line (number_of r) → ((m : ℕ) → m < number_of r → Fails ws line m → ⊥) → place_of r ≡ 0 → Refuses ws line (Err r)
+  fits : RightTable ws → length line ≤ most_bytes → Refuses ws line (Ok tt)
 
--- 0 says that the table is right and the line short enough
+-- no refusal says that the table is right and the line short enough
 pub record Readable (ws line : List ℕ) : Type 0 where
   pub right : RightTable ws
   pub short : length line ≤ most_bytes
 
 module _ {ws line : List ℕ} where
-  pub seven : (RightTable ws → ⊥) → Refuses ws line 7
-  seven f = by {n = 7} (omega arith) (table f) low
+  pub seven : (RightTable ws → ⊥) → Refuses ws line (Err WrongTable)
+  seven f = by (table f) low refl
     where
       low : (m : ℕ) → m < 7 → Fails ws line m → ⊥
       low m h (table f) = omega arith
       low m h (long g) = omega arith
 
-  pub eight : RightTable ws → most_bytes < length line → Refuses ws line 8
-  eight r h = by {n = 8} (omega arith) (long h) low
+  pub eight : RightTable ws → most_bytes < length line → Refuses ws line (Err LongLine)
+  eight r h = by (long h) low refl
     where
       low : (m : ℕ) → m < 8 → Fails ws line m → ⊥
       low m h (table f) = f r
@@ -46,26 +47,23 @@ module _ {ws line : List ℕ} where
   fit r l m (table f) = f r
   fit r l m (long g) = omega arith
 
-  -- a number that is not 0 is the answer
-  pub not_read_so : {n : ℕ} → (n ≡ 0 → ⊥) → Refuses ws line n → BestAnswer ws line (refusal n 0)
-  not_read_so d (by h f low) = not_read f low
-  not_read_so d (fits r l) = absurd (d refl)
+  -- a refusal is the answer
+  pub not_read_so : {r : Refusal} → Refuses ws line (Err r) → BestAnswer ws line (refusal (number_of r) (place_of r))
+  not_read_so (by f low e) = rw e (not_read f low)
 
   at_most : {n : ℕ} → Fails ws line n → n ≤ 8
   at_most (table f) = omega arith
   at_most (long g) = omega arith
 
-  pub not_weighed_so : {t : Spans} {n : ℕ} → (n ≡ 0 → ⊥) → Refuses ws line n → SetAnswer ws line t (refusal n 0)
-  not_weighed_so {t} d (by {n = n} h f low) = not_weighed (reading_it f) lows
+  pub not_weighed_so : {t : Spans} {r : Refusal} → Refuses ws line (Err r) → SetAnswer ws line t (weighed (Err r))
+  not_weighed_so {t} (by {r = r} f low e) = rw e (not_weighed (reading_it f) lows)
     where
-      lows : (m : ℕ) → m < n → FailsSet ws line t m → ⊥
+      lows : (m : ℕ) → m < number_of r → FailsSet ws line t m → ⊥
       lows m k (reading_it g) = low m k g
       lows m k (no_set g) = omega (arith, at_most f)
-  not_weighed_so d (fits r l) = absurd (d refl)
 
-  pub readable : {n : ℕ} → n ≡ 0 → Refuses ws line n → Readable ws line
-  readable e (by h f low) = absurd (omega arith)
-  readable e (fits r l) = record { right = r; short = l }
+  pub readable : {u : Unit {0}} → Refuses ws line (Ok u) → Readable ws line
+  readable (fits r l) = record { right = r; short = l }
 
   pub not_a_set : {t : Spans} → RightTable ws → length line ≤ most_bytes → (SetOfSpans (automaton_of ws).vars (length line) t → ⊥) → SetAnswer ws line t (refusal 9 0)
   not_a_set {t} r l f = not_weighed (no_set f) low
@@ -76,24 +74,9 @@ module _ {ws line : List ℕ} where
 
 -- one range that is a position
 pin : (x p : ℕ) → (leb x p && leb p x) ≡ eqb x p
-pin x p = go (ℕ_discrete x p)
-  where
-    apart : (x ≡ p → ⊥) → (a b : Bool) → leb x p ≡ a → leb p x ≡ b → (a && b) ≡ false
-    apart f true true e g = absurd (f (omega (arith, leb_so x p e, leb_so p x g)))
-      where
-        leb_so : (a b : ℕ) → leb a b ≡ true → a ≤ b
-        leb_so a b e = borrow.Author.Tests.leb-true a b e
-    apart f true false e g = refl
-    apart f false b e g = refl
+pin x p = grind arith
 
-    go : Dec (x ≡ p) → (leb x p && leb p x) ≡ eqb x p
-    go (yes e) = rw (le-leb x p (omega arith), le-leb p x (omega arith), eq-eqb x p e)
-    go (no e) = apart e (leb x p) (leb p x) refl refl ∙ sym (ne_eqb x p e)
-
-abbrev pub six : Spans → List ℕ
-six t = t.s1 ∷ t.e1 ∷ t.s2 ∷ t.e2 ∷ t.s3 ∷ t.e3 ∷ []
-
-pub pinned_ranges : (t : Spans) → Pinned t (allowed (six t) (six t))
+pub pinned_ranges : (t : Spans) → Pinned t (allowed (digits t) (digits t))
 pinned_ranges t zero p h = pin t.s1 p
 pinned_ranges t (suc zero) p h = pin t.e1 p
 pinned_ranges t (suc (suc zero)) p h = pin t.s2 p
@@ -102,13 +85,17 @@ pinned_ranges t (suc (suc (suc (suc zero)))) p h = pin t.s3 p
 pinned_ranges t (suc (suc (suc (suc (suc zero))))) p h = pin t.e3 p
 pinned_ranges t (suc (suc (suc (suc (suc (suc m)))))) p h = absurd (omega arith)
 
+-- and one that is any
+open_one : (p : ℕ) → p ≤ 1025 → (leb 0 p && leb p 1025) ≡ true
+open_one p l = grind arith
+
 pub open_ranges : Open (allowed (0 ∷ 0 ∷ 0 ∷ 0 ∷ 0 ∷ 0 ∷ []) (1025 ∷ 1025 ∷ 1025 ∷ 1025 ∷ 1025 ∷ 1025 ∷ []))
-open_ranges zero p h l = rw (le-leb 0 p (omega arith), le-leb p 1025 l)
-open_ranges (suc zero) p h l = rw (le-leb 0 p (omega arith), le-leb p 1025 l)
-open_ranges (suc (suc zero)) p h l = rw (le-leb 0 p (omega arith), le-leb p 1025 l)
-open_ranges (suc (suc (suc zero))) p h l = rw (le-leb 0 p (omega arith), le-leb p 1025 l)
-open_ranges (suc (suc (suc (suc zero)))) p h l = rw (le-leb 0 p (omega arith), le-leb p 1025 l)
-open_ranges (suc (suc (suc (suc (suc zero))))) p h l = rw (le-leb 0 p (omega arith), le-leb p 1025 l)
+open_ranges zero p h l = open_one p l
+open_ranges (suc zero) p h l = open_one p l
+open_ranges (suc (suc zero)) p h l = open_one p l
+open_ranges (suc (suc (suc zero))) p h l = open_one p l
+open_ranges (suc (suc (suc (suc zero)))) p h l = open_one p l
+open_ranges (suc (suc (suc (suc (suc zero))))) p h l = open_one p l
 open_ranges (suc (suc (suc (suc (suc (suc m)))))) p h l = absurd (omega arith)
 
 -- what the sweep gives, read as an answer

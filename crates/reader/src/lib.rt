@@ -2,27 +2,29 @@
 // Both are one backward pass over the line; numbers 7, 8 and 9 are given here. Any words, any line, any six numbers.
 #![tactic(auto)]
 
-ghost use Rattle.std.specs.Prelude.{◌≡◌};
-ghost use Rattle.best.specs.Decode.{spans_of_key};
+ghost use Rattle.std.specs.Prelude.{◌≡◌, ◌<◌};
+ghost use Rattle.refusal.specs.Numbers.{number_of, place_of};
+ghost use Rattle.best.specs.Decode.{key_digit, spans_of_key};
 ghost use Rattle.reader.specs.Answers.{weighed, read, SetAnswer, BestAnswer};
 ghost use Rattle.reader.specs.Cases.{Refuses};
+ghost use Rattle.reader.specs.declared.Answer.TheVariants.{Refused};
 
+use refusal::Refusal;
 use spans::Spans;
 use weight::Weight;
 
 // The longest line that is read.
 pub const MOST_BYTES: usize = 1024;
 
-const MARK: u32 = Weight::MARK.number;
+// The last position: after the last byte of the longest line.
+const LAST: u32 = MOST_BYTES as u32 + 1;
 
-// What is said of a set: its weight, the mark included, or a refusal.
-#[derive(Clone, Copy)]
-pub enum Weighed {
-    Weighs { weight: Weight },
-    Refused { number: u32, place: u32 },
-}
+// A key is six positions, digits in this base.
+const BASE: u64 = LAST as u64 + 1;
 
-// What is said of a line, by name: a reading, no reading, or a refusal.
+// What is said of a line, by name: a reading, no reading, or a refusal. An enum of three and not a Result, since the answer for a line
+// is one of the forms in docs/DECISIONS.md ("Forms"). Its refusal keeps the number and the place themselves: `printing::answer`
+// prints any two.
 #[derive(Clone, Copy)]
 pub enum Answer {
     Reading { weight: Weight, spans: Spans },
@@ -30,69 +32,85 @@ pub enum Answer {
     Refused { number: u32, place: u32 },
 }
 
-// Number 7 or 8, or 0 where the line can be read by the table.
-fn refused(table: &[u32], line: &[u8]) -> u32
+impl From<Refusal> for Answer {
+    ghost from_gives = { λ r a. a ≡ Refused (number_of r) (place_of r) };
+
+    fn from(r: Refusal) -> Answer {
+        Answer::Refused {
+            number: r.number(),
+            place: r.place(),
+        }
+    }
+}
+
+// Whether the line can be read by the table.
+#[tactic(auto, using(crate::specs::Cases::seven, crate::specs::Cases::eight, crate::specs::Cases::fits))]
+fn readable(table: &[u32], line: &[u8]) -> Result<(), Refusal>
     ensures { Refuses table.now line.now result }
 {
     if !table::is_right(table) {
-        return 7;
+        return Err(Refusal::WrongTable);
     }
     if MOST_BYTES < line.len() {
-        return 8;
+        return Err(Refusal::LongLine);
     }
-    0
+    Ok(())
 }
 
-pub fn weight_of_set(table: &[u32], line: &[u8], set: Spans) -> Weighed
+// The weight of a set, the mark included.
+#[tactic(auto, using(crate::specs::Cases::not_weighed_so))]
+pub fn weight_of_set(table: &[u32], line: &[u8], set: Spans) -> Result<Weight, Refusal>
     ensures { SetAnswer table.now line.now set (weighed result) }
 {
-    let number = refused(table, line);
-    if number != 0 {
-        return Weighed::Refused { number, place: 0 };
-    }
+    readable(table, line)?;
     let k = table[1];
     if !set.is_set(k, line.len()) {
-        return Weighed::Refused {
-            number: 9,
-            place: 0,
-        };
+        return Err(Refusal::NoSpans);
     }
-    let at = [set.s1, set.e1, set.s2, set.e2, set.s3, set.e3];
+    let at: [u32; 6] = set.into();
     let sum = layer::sweep(table, line, &at, &at);
     let weight = Weight { number: sum.weight };
-    Weighed::Weighs { weight }
+    Ok(weight)
 }
 
-// The set whose positions a key packs, in base 1,026.
+// The m-th position of a key.
+fn digit(key: u64, m: u32) -> u32
+    requires { m < 6 }
+    ensures { result ≡ key_digit key m }
+{
+    (key / BASE.pow(5 - m) % BASE) as u32
+}
+
+// The set whose positions a key packs.
 fn spans_of(key: u64) -> Spans
     ensures { result ≡ spans_of_key key }
 {
     Spans {
-        s1: (key / 1136938056761376 % 1026) as u32,
-        e1: (key / 1108126760976 % 1026) as u32,
-        s2: (key / 1080045576 % 1026) as u32,
-        e2: (key / 1052676 % 1026) as u32,
-        s3: (key / 1026 % 1026) as u32,
-        e3: (key % 1026) as u32,
+        s1: digit(key, 0),
+        e1: digit(key, 1),
+        s2: digit(key, 2),
+        e2: digit(key, 3),
+        s3: digit(key, 4),
+        e3: digit(key, 5),
     }
 }
 
+#[tactic(auto, using(crate::specs::Cases::not_read_so))]
 pub fn best_reading(table: &[u32], line: &[u8]) -> Answer
     ensures { BestAnswer table.now line.now (read result) }
 {
-    let number = refused(table, line);
-    if number != 0 {
-        return Answer::Refused { number, place: 0 };
+    if let Err(r) = readable(table, line) {
+        return r.into();
     }
-    let lo = [0u32; 6];
-    let hi = [1025u32; 6];
+    let lo = [0; 6];
+    let hi = [LAST; 6];
     let cell = layer::sweep(table, line, &lo, &hi);
-    if cell.weight == MARK {
-        return Answer::NoReading;
-    }
     let weight = Weight {
         number: cell.weight,
     };
+    if weight == Weight::MARK {
+        return Answer::NoReading;
+    }
     let spans = spans_of(cell.key);
     Answer::Reading { weight, spans }
 }

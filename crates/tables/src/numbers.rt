@@ -1,104 +1,58 @@
 // Decimal numbers in a text, each with one byte below `0` after it, a blank or LF.
-ghost use Rattle.std.specs.Prelude.{◌≡◌, ◌≤◌, ◌<◌, length};
 
-// A number, and where the next one stands.
+use std::array;
+
+// A text of numbers, gone through from its start. rest: what is left of it.
 #[derive(Drop)]
-pub struct Read {
-    pub value: u32,
-    pub next: usize,
+pub struct Numbers<'a> {
+    rest: &'a [u8],
 }
 
-// What became of a question: whether the answer was the stored one, and where the next question stands.
-#[derive(Drop)]
-pub struct Asked {
-    pub agrees: bool,
-    pub next: usize,
-}
+impl<'a> Numbers<'a> {
+    pub fn new(text: &'a [u8]) -> Numbers<'a> {
+        Numbers { rest: text }
+    }
 
-// How many numbers were taken, and where the next one stands.
-#[derive(Drop)]
-pub struct Taken {
-    pub count: usize,
-    pub next: usize,
-}
+    pub fn is_over(&self) -> bool {
+        self.rest.is_empty()
+    }
 
-fn wide(x: u32) -> u64
-    ensures { result < 4294967296 }
-{
-    x as u64
-}
-
-fn digit(d: u8) -> u64
-    ensures { result < 256 }
-{
-    d as u64
-}
-
-fn with_digit(value: u32, d: u8) -> u32 {
-    ((wide(value) * 10 + digit(d)) % 4294967296) as u32
-}
-
-pub fn number(text: &[u8], at: usize) -> Read
-    requires { at ≤ length text.now }
-    ensures { result.next ≤ length text.now }
-{
-    let mut value = 0;
-    let mut next = at;
-    while next < text.len() {
-        let d = text[next];
-        next += 1;
-        if d < b'0' {
-            return Read { value, next };
+    // The next number, modulo 2^32; 0 where the text is over. Any byte from `0` on counts as a digit.
+    pub fn number(&mut self) -> u32 {
+        let mut value = 0u32;
+        while let Some((byte, rest)) = self.rest.split_first() {
+            self.rest = rest;
+            if *byte < b'0' {
+                break;
+            }
+            value = value.wrapping_mul(10).wrapping_add(u32::from(*byte - b'0'));
         }
-        value = with_digit(value, d - b'0');
+        value
     }
-    Read { value, next }
-}
 
-pub fn size(n: u32) -> usize {
-    n as usize
-}
-
-pub fn least(a: usize, b: usize) -> usize
-    ensures { result ≤ b }
-{
-    if a < b { a } else { b }
-}
-
-// The next n numbers, or as many as there is room for.
-pub fn words(text: &[u8], at: usize, n: u32, out: &mut [u32]) -> Taken
-    requires { at ≤ length text.now }
-    ensures { (result.next ≤ length text.now) × (result.count ≤ length out.old) }
-{
-    let most = least(size(n), out.len());
-    let mut next = at;
-    let mut count = 0;
-    while count < most {
-        let a = number(text, next);
-        out[count] = a.value;
-        next = a.next;
-        count += 1;
+    // The next N numbers.
+    pub fn array<const N: usize>(&mut self) -> [u32; N] {
+        array::from_fn(|_| self.number())
     }
-    Taken { count, next }
-}
 
-// The same for bytes.
-pub fn bytes(text: &[u8], at: usize, n: u32, out: &mut [u8]) -> Taken
-    requires { at ≤ length text.now }
-    ensures { (result.next ≤ length text.now) × (result.count ≤ length out.old) }
-{
-    let most = least(size(n), out.len());
-    let mut next = at;
-    let mut count = 0;
-    while count < most {
-        let a = number(text, next);
-        out[count] = low(a.value);
-        next = a.next;
-        count += 1;
+    // A number n and the next n numbers, or as many of them as there is room for; `of` says what each stands for.
+    fn list<'b, T: Copy, F: Fn(u32) -> T>(&mut self, room: &'b mut [T], of: F) -> &'b [T]
+        requires { F.IsAlwaysCallable of }
+    {
+        let most = (self.number() as usize).min(room.len());
+        let list = &mut room[..most];
+        for item in list.iter_mut() {
+            *item = of(self.number());
+        }
+        list
     }
-    Taken { count, next }
-}
 
-fn low(x: u32) -> u8 {
-    (x % 256) as u8
+    pub fn words<'b>(&mut self, room: &'b mut [u32]) -> &'b [u32] {
+        self.list(room, |number| number)
+    }
+
+    // The same for bytes: a number above 255 is taken modulo 256.
+    pub fn bytes<'b>(&mut self, room: &'b mut [u8]) -> &'b [u8] {
+        self.list(room, |number| (number % 256) as u8)
+    }
 }

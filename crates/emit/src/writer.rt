@@ -1,0 +1,36 @@
+// Words put into a room one after another.
+ghost use Rattle.std.specs.Prelude.{◌≡◌, ◌+◌, ◌≤◌, [], ◌∷◌, length};
+ghost use Rattle.layout.specs.Words.{spread};
+ghost use Rattle.emit.specs.Wrote.{Wrote};
+
+use table::Row;
+
+// The room, and the place of the next word.
+#[derive(Drop)]
+pub(crate) struct Writer<'a> {
+    pub room: &'a mut [u32],
+    pub at: usize,
+}
+
+impl<'a> Writer<'a> {
+    #[tactic(auto, using(crate::proofs::Laws::wrote_part))]
+    pub(crate) fn put(&mut self, words: &[u32])
+        requires { self.old.at + length words.now ≤ length self.old.room.now }
+        ensures same_room { self.new.room.ghost_name ≡ self.old.room.ghost_name }
+        ensures wrote { Wrote self.old.at words.now self.old.room.now self.new.room.now self.new.at }
+    {
+        let at = self.at;
+        let end = at + words.len();
+        self.room[at..end].copy_from_slice(words);
+        self.at = end;
+    }
+
+    #[tactic(auto, unfolding(layout::specs::Words::spread))]
+    pub(crate) fn put_row(&mut self, row: Row)
+        requires { self.old.at + 5 ≤ length self.old.room.now }
+        ensures same_room { self.new.room.ghost_name ≡ self.old.room.ghost_name }
+        ensures wrote { Wrote self.old.at (spread (row ∷ [])) self.old.room.now self.new.room.now self.new.at }
+    {
+        self.put(&[row.from, row.to, row.kind, row.argument, row.weight]);
+    }
+}

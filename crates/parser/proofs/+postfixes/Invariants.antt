@@ -1,6 +1,0 @@
--- `parser::postfixes` meets its contract; the bytes left fall.
-use Rattle.std.proofs.Common.{◌-◌, length}
-use Rattle.parser.proofs.+postfixes.Given as goal
-
-abbrev pub decreases-postfixes : goal.decreases-postfixes
-decreases-postfixes l = length l.text.now - l.part.next
