@@ -38,7 +38,7 @@ fn first(text: &[u8]) -> Result<u32, CardLine>
         return Err(CardLine::First);
     }
     let d = text[DIGIT];
-    if !matches!(d, b'0'..=b'9') || text[DIGIT_LF] != lines::LF {
+    if !d.is_ascii_digit() || text[DIGIT_LF] != lines::LF {
         return Err(CardLine::First);
     }
     Ok(u32::from(d - b'0'))

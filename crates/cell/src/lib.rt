@@ -9,6 +9,11 @@ ghost use Rattle.cell.specs.Value.{value};
 
 use weight::Weight;
 
+// A position of a line of 1,024 bytes is below this, so six of them are the digits of a key.
+pub const BASE: u64 = 1026;
+
+// The weight is its number and no `Weight`: it is added and compared in parts, beside a carry, and `Layer` keeps the words in arrays of
+// their own.
 #[derive(Clone, Copy)]
 pub struct Cell {
     pub weight: u32,
@@ -23,7 +28,8 @@ impl Cell {
     };
 
     // The lighter of two; no run is the one cell NONE, whatever keys stand beside the mark. Compared by hand, since this is done for
-    // each cell at each byte: with `self.min(other)` by a derived order a row took 3.9 ns a cell, this way 2.0.
+    // each cell at each byte: with `self.min(other)` by a derived order a row took 3.9 ns a cell, this way 2.0, and the whole must take
+    // at most 1.1 times as long as the same in Rust (docs/PERFORMANCE.md).
     #[tactic(auto, unfolding(weight::specs::Weight::lighter_to))]
     pub fn lighter(self, other: Cell) -> Cell
         ensures { value result ≡ lighter_to cap (value self) (value other) }

@@ -5,9 +5,13 @@
 
 ghost use Rattle.compiler.specs.Answers.{compiled, Compiles, CompilesCard};
 
+use grid::{CELLS, STATES, STEPS};
+use parser::LABELS;
 use refusal::Refusal;
+use table::{HEADER, ROW_WORDS};
 
-// 01's limits.
+// 01's limits. The steps have a number of their own: that the parser's cells have no room for more is another matter, and a smaller limit
+// is what must-fail/steps_30.edit tries.
 pub const MOST_VARS: u32 = 3;
 
 pub const MOST_TEXT: usize = 255;
@@ -16,12 +20,8 @@ pub const MOST_NESTING: usize = 16;
 
 pub const MOST_STEPS: usize = 31;
 
-// What the parser fills: a word for each two of 32 states, and two for each step.
-const STATES: usize = 32;
-
-const CELLS: usize = STATES * STATES;
-
-const LABELS: usize = 2 * STATES;
+// Enough for every table: as many states as there may be, and a row from each to each step.
+pub const ROOM: usize = HEADER + STATES + ROW_WORDS * (STATES * STEPS);
 
 // The table of a pattern with k variables: how many words it has, now at the start of the room.
 #[tactic(auto, using(crate::specs::Cases::many_vars, crate::specs::Cases::long_text, crate::specs::Made::no_text))]

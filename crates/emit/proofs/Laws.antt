@@ -20,7 +20,9 @@ use Rattle.table.specs.declared.Row.{Row}
 use Rattle.layout.specs.Gather.{gather}
 use Rattle.layout.specs.Words.{row_of, arrow, rows_for, spread}
 use Rattle.emit.specs.Cells.{cell_at, labels_in}
-use Rattle.emit.specs.Wrote.{Wrote, wrote_none, wrote_more, wrote_length, gather_within}
+use Rattle.emit.specs.declared.writer.Writer.{Writer}
+use Rattle.emit.specs.Wrote.{Wrote, wrote_more, wrote_length, gather_within}
+use Rattle.emit.specs.Puts.{Puts, puts_none}
 
 -- whether there is a row
 module _ (cells labels : List ℕ) (x p : ℕ) where
@@ -68,20 +70,20 @@ pub count_one : {R : Type 0} (f : ℕ → List R) (n k l : ℕ) → k ≡ length
 count_one f n k l e g = rw (gather_one f n) (omega (arith, length-append (gather f n) (f n)))
 
 -- one more is written
-pub wrote_one : (W : ℕ → List ℕ) (n : ℕ) {at to end : ℕ} {old mid new : List ℕ} → Wrote at (gather W n) old mid to → Wrote to (W n) mid new end → Wrote at (gather W (n + 1)) old new end
-wrote_one W n p q = rw (gather_one W n) (wrote_more p q)
+pub puts_one : (W : ℕ → List ℕ) (n : ℕ) {p q r : Writer} → Puts p q (gather W n) → Puts q r (W n) → Puts p r (gather W (n + 1))
+puts_one W n g h = record { same_room = h.same_room ∙ g.same_room; wrote = rw (gather_one W n) (wrote_more g.wrote h.wrote) }
 
 -- there is room for one more
-pub room_one : (W : ℕ → List ℕ) (i n : ℕ) {at to : ℕ} {old mid : List ℕ} → i < n → at + length (gather W n) ≤ length old → Wrote at (gather W i) old mid to → to + length (W i) ≤ length mid
-room_one W i n h r p = omega (arith, gather_within W i n h, p.next, wrote_length p)
+pub room_one : (W : ℕ → List ℕ) (i n : ℕ) {p q : Writer} → i < n → p.at + length (gather W n) ≤ length p.room.now → Puts p q (gather W i) → q.at + length (W i) ≤ length q.room.now
+room_one W i n h r g = omega (arith, gather_within W i n h, g.wrote.next, wrote_length g.wrote)
 
 pub row_long : (r : Row) (rs : List Row) → r ∷ [] ≡ rs → length (spread rs) ≡ 5
 unfolding spread
 row_long r rs e = rw (← e)
 
-pub no_row : (at : ℕ) (rs : List Row) (old : List ℕ) → [] ≡ rs → Wrote at (spread rs) old old at
+pub no_row : (p : Writer) (rs : List Row) → [] ≡ rs → Puts p p (spread rs)
 unfolding spread
-no_row at rs old e = rw (← e) (wrote_none at old)
+no_row p rs e = rw (← e) (puts_none p)
 
 -- words copied into a part of the room
 pub wrote_part : (at : ℕ) (ws room part : List ℕ) → part ≡ ws → at + length ws ≤ length room → Wrote at ws room (put_mid at (at + length ws - at) room part) (at + length ws)

@@ -30,19 +30,19 @@ module _ (cells labels : List ℕ) (nul steps k rows : ℕ) (counted : rows ≡ 
   pub rows_long : length (row_words (cell_at cells) (labels_in labels) steps) ≡ 5 * rows
   rows_long = ap length (sym (rows_words (cell_at cells) (labels_in labels) steps)) ∙ spread_length (rows_of (cell_at cells) (labels_in labels) steps) ∙ ap (λ (n : ℕ). 5 * n) (sym counted)
 
-  table_long : length (table_in cells labels nul steps k) ≡ 4 + steps + 5 * rows
+  table_long : length (table_in cells labels nul steps k) ≡ 3 + (steps + 1) + 5 * rows
   table_long =
       let e : length (rows_of (arcs_in cells nul) (labels_in labels) steps) ≡ rows = ap length (rows_arcs cells nul (labels_in labels) steps) ∙ sym counted in
       words_of_length (arcs_in cells nul) (labels_in labels) k steps ∙ (omega arith)
 
-  pub too_short : (old : List ℕ) → length old < 4 + steps + 5 * rows → Emits (table_in cells labels nul steps k) old (Err (ShortRoom (4 + steps + 5 * rows))) old
+  pub too_short : (old : List ℕ) → length old < 3 + (steps + 1) + 5 * rows → Emits (table_in cells labels nul steps k) old (Err (ShortRoom (3 + (steps + 1) + 5 * rows))) old
   too_short old h = short (sym table_long) (omega (arith, table_long)) refl
 
-  pub all_written : (old a b new : List ℕ) (i j end : ℕ) → 4 + steps + 5 * rows ≤ length old
+  pub all_written : (old a b new : List ℕ) (i j end : ℕ) → 3 + (steps + 1) + 5 * rows ≤ length old
       → Wrote 0 ((steps + 1) ∷ k ∷ rows ∷ []) old a i
       → Wrote i (ends_of (arcs_in cells nul) (suc steps)) a b j
       → Wrote j (row_words (cell_at cells) (labels_in labels) steps) b new end
-      → Emits (table_in cells labels nul steps k) old (Ok (4 + steps + 5 * rows)) new
+      → Emits (table_in cells labels nul steps k) old (Ok (3 + (steps + 1) + 5 * rows)) new
   all_written old a b new i j end h p q r =
       let fits : length (table_in cells labels nul steps k) ≤ length old = omega (arith, table_long) in
       let w : Wrote 0 (table_in cells labels nul steps k) old new end = rw table_is (wrote_more p (wrote_more q r)) in

@@ -2,17 +2,15 @@
 ghost use Rattle.std.specs.Prelude.{◌≡◌, suc, ◌+◌, ◌≤◌, ◌<◌, length, option_to_list};
 ghost use Rattle.layout.specs.Words.{arrow, rows_for, rows_of, ends_of};
 ghost use Rattle.emit.specs.Cells.{cell_at, arcs_in, labels_in};
-ghost use Rattle.emit.specs.Wrote.{from_words, row_words, Wrote};
+ghost use Rattle.emit.specs.Wrote.{from_words, row_words};
+ghost use Rattle.emit.specs.Puts.{Puts};
 
 use super::writer::Writer;
+use grid::{NO_ARC, STATES};
 use table::Row;
 
-// A cell for each two of this many states: the arc from x to y is at x × STATES + y.
-const STATES: usize = 32;
-
-const NO_ARC: u32 = weight::Weight::MARK.number;
-
-// The arcs, the labels, the weight of a text for no step, and the number of steps.
+// The arcs, from x to y at x × STATES + y, the labels, the weight of a text for no step, and the number of steps. Where there is no arc
+// the cell has the mark, which is a weight and no flag: cells are less than it or not.
 #[derive(Clone, Copy)]
 pub(crate) struct Draft<'a> {
     pub cells: &'a [u32],
@@ -22,6 +20,7 @@ pub(crate) struct Draft<'a> {
     ghost sized: { (1024 ≤ length cells.now) × (64 ≤ length labels.now) × (steps ≤ 31) },
 }
 
+// That x is a state stands in four contracts: a type of such numbers would be made, and its bound proved, at each turn of each loop.
 impl<'a> Draft<'a> {
     // The row from state x to step p, if there is an arc.
     #[tactic(auto, using(crate::proofs::Laws::row_there, crate::proofs::Laws::row_none))]
@@ -77,11 +76,10 @@ impl<'a> Draft<'a> {
         }
     }
 
-    #[tactic(auto, using(crate::specs::Wrote::wrote_none), unfolding(layout::specs::Gather::gather))]
+    #[tactic(auto, using(crate::specs::Puts::puts_none), unfolding(layout::specs::Gather::gather))]
     pub(crate) fn write_ends(&self, table: &mut Writer)
         requires { table.old.at + length (ends_of (arcs_in self.now.cells.now self.now.nul) (suc self.now.steps)) ≤ length table.old.room.now }
-        ensures same_room { table.new.room.ghost_name ≡ table.old.room.ghost_name }
-        ensures wrote { Wrote table.old.at (ends_of (arcs_in self.now.cells.now self.now.nul) (suc self.now.steps)) table.old.room.now table.new.room.now table.new.at }
+        ensures { Puts table.old table.new (ends_of (arcs_in self.now.cells.now self.now.nul) (suc self.now.steps)) }
     {
         for x in 0..self.steps + 1 {
             table.put(&[self.end(x)]);
@@ -89,12 +87,11 @@ impl<'a> Draft<'a> {
     }
 
     // The rows that leave from state x.
-    #[tactic(auto, using(crate::specs::Wrote::wrote_none), unfolding(layout::specs::Gather::gather))]
+    #[tactic(auto, using(crate::specs::Puts::puts_none), unfolding(layout::specs::Gather::gather))]
     fn write_from(&self, x: usize, table: &mut Writer)
         requires x_in_bounds { x ≤ self.now.steps }
         requires fits { table.old.at + length (from_words (cell_at self.now.cells.now) (labels_in self.now.labels.now) self.now.steps x) ≤ length table.old.room.now }
-        ensures same_room { table.new.room.ghost_name ≡ table.old.room.ghost_name }
-        ensures wrote { Wrote table.old.at (from_words (cell_at self.now.cells.now) (labels_in self.now.labels.now) self.now.steps x) table.old.room.now table.new.room.now table.new.at }
+        ensures { Puts table.old table.new (from_words (cell_at self.now.cells.now) (labels_in self.now.labels.now) self.now.steps x) }
     {
         for p in 0..self.steps {
             if let Some(row) = self.row(x, p) {
@@ -103,11 +100,10 @@ impl<'a> Draft<'a> {
         }
     }
 
-    #[tactic(auto, using(crate::specs::Wrote::wrote_none), unfolding(layout::specs::Gather::gather))]
+    #[tactic(auto, using(crate::specs::Puts::puts_none), unfolding(layout::specs::Gather::gather))]
     pub(crate) fn write_rows(&self, table: &mut Writer)
         requires { table.old.at + length (row_words (cell_at self.now.cells.now) (labels_in self.now.labels.now) self.now.steps) ≤ length table.old.room.now }
-        ensures same_room { table.new.room.ghost_name ≡ table.old.room.ghost_name }
-        ensures wrote { Wrote table.old.at (row_words (cell_at self.now.cells.now) (labels_in self.now.labels.now) self.now.steps) table.old.room.now table.new.room.now table.new.at }
+        ensures { Puts table.old table.new (row_words (cell_at self.now.cells.now) (labels_in self.now.labels.now) self.now.steps) }
     {
         for x in 0..self.steps + 1 {
             self.write_from(x, table);

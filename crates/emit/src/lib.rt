@@ -11,6 +11,7 @@ mod writer;
 
 use draft::Draft;
 use refusal::Refusal;
+use table::{HEADER, ROW_WORDS};
 use writer::Writer;
 
 // The words of the table: how many are written, or that the room is too short for them, and then none is. The cells and the labels, two
@@ -33,7 +34,7 @@ pub fn emit(
         steps,
     };
     let rows = draft.rows();
-    let words = 4 + steps + 5 * rows;
+    let words = HEADER + (steps + 1) + ROW_WORDS * rows;
     if room.len() < words {
         let needed = words as u32;
         return Err(Refusal::ShortRoom { needed });

@@ -1,9 +1,9 @@
 // Words put into a room one after another.
 ghost use Rattle.std.specs.Prelude.{◌≡◌, ◌+◌, ◌≤◌, [], ◌∷◌, length};
 ghost use Rattle.layout.specs.Words.{spread};
-ghost use Rattle.emit.specs.Wrote.{Wrote};
+ghost use Rattle.emit.specs.Puts.{Puts};
 
-use table::Row;
+use table::{ROW_WORDS, Row};
 
 // The room, and the place of the next word.
 #[derive(Drop)]
@@ -16,8 +16,7 @@ impl<'a> Writer<'a> {
     #[tactic(auto, using(crate::proofs::Laws::wrote_part))]
     pub(crate) fn put(&mut self, words: &[u32])
         requires { self.old.at + length words.now ≤ length self.old.room.now }
-        ensures same_room { self.new.room.ghost_name ≡ self.old.room.ghost_name }
-        ensures wrote { Wrote self.old.at words.now self.old.room.now self.new.room.now self.new.at }
+        ensures { Puts self.old self.new words.now }
     {
         let at = self.at;
         let end = at + words.len();
@@ -28,9 +27,8 @@ impl<'a> Writer<'a> {
     #[tactic(auto, unfolding(layout::specs::Words::spread))]
     pub(crate) fn put_row(&mut self, row: Row)
         requires { self.old.at + 5 ≤ length self.old.room.now }
-        ensures same_room { self.new.room.ghost_name ≡ self.old.room.ghost_name }
-        ensures wrote { Wrote self.old.at (spread (row ∷ [])) self.old.room.now self.new.room.now self.new.at }
+        ensures { Puts self.old self.new (spread (row ∷ [])) }
     {
-        self.put(&[row.from, row.to, row.kind, row.argument, row.weight]);
+        self.put(&<[u32; ROW_WORDS]>::from(row));
     }
 }

@@ -50,6 +50,9 @@ pub fn announce<P: Print>(out: &P, path: &[u8]) -> io::Result<()> {
     out.write_all(b"\n")
 }
 
+// An argument is asked for by its place, until there is none: std gives them without allocating in no other way. One that is too long
+// counts as the empty name, which opens no file: so the program names it, as it always did.
+//
 // Does `work` on each file that an argument of the program names, in their order. The line with its name stands before what the work
 // prints. A file that cannot be opened is named on standard error, and the next one comes; the first error of the work, or of writing
 // a name, ends the run.

@@ -10,15 +10,15 @@ ghost use Rattle.grid.specs.Cells.{bridge, extra, Cleared, Leafed, Linked, Raise
 
 use weight::Weight;
 
-// The states, the last of them, and the arcs from each to each.
-const STATES: usize = 32;
+// The states, the steps between them, which is also the last state, and the arcs from each to each.
+pub const STATES: usize = 32;
 
-const LAST: usize = STATES - 1;
+pub const STEPS: usize = STATES - 1;
 
-const CELLS: usize = STATES * STATES;
+pub const CELLS: usize = STATES * STATES;
 
 // The mark, which is a weight and no flag: `lighter` and `sum` go on with it.
-const NO_ARC: u32 = Weight::MARK.number;
+pub const NO_ARC: u32 = Weight::MARK.number;
 
 // Of two words: the cells are lent as words, and a `Weight` around each at every use would be no plainer.
 pub fn lighter(a: u32, b: u32) -> u32
@@ -50,7 +50,8 @@ struct Seam {
 }
 
 impl Seam {
-    // What the cell i gets by way of an end and a beginning.
+    // What the cell i gets by way of an end and a beginning. The cells are a slice, as `link` has them lent: an array would have to be cut
+    // there from the slice, and its words proved to be the slice's own, which is no plainer than the length that is asked here.
     #[tactic(auto, using(std::proofs::lemmas::Bool::Decides::nat_tests), unfolding(crate::specs::Cells::bridge))]
     #[inline]
     fn bridge(self, cells: &[u32], i: usize) -> u32
@@ -83,7 +84,7 @@ impl Seam {
     }
 }
 
-// From each step after lo up to hi to each step after next.
+// From each step after lo up to hi to each step after next. By the index, since a bridge reads cells other than its own.
 pub fn link(cells: &mut [u32], lo: usize, hi: usize, next: usize)
     requires { 1024 ≤ length cells.old }
     ensures { Linked lo hi next cells.old cells.new }
@@ -99,8 +100,8 @@ pub fn raise(cells: &mut [u32], lo: usize, hi: usize, ending: u32, next: usize, 
     ensures { Raised lo hi ending next beginning cells.old cells.new }
 {
     let seam = Seam { lo, hi, next };
-    for i in 0..CELLS {
-        cells[i] = sum(cells[i], seam.extra(i, ending, beginning));
+    for (i, cell) in cells[..CELLS].iter_mut().enumerate() {
+        *cell = sum(*cell, seam.extra(i, ending, beginning));
     }
 }
 
@@ -119,7 +120,7 @@ pub fn again(cells: &mut [u32], o: usize) -> u32
     requires { 1024 ≤ length cells.old }
     ensures { (result ≡ 0) × Linked o 31 o cells.old cells.new }
 {
-    link(cells, o, LAST, o);
+    link(cells, o, STEPS, o);
     0
 }
 

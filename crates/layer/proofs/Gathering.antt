@@ -6,6 +6,7 @@ use native.Mathlib.Omega.{arith}
 use native.Mathlib.Numerals.{add-one}
 use lib.ListN.{length, get_or, take, set}
 use lib.Seq.{take-suc, take-suc-set}
+use Rattle.std.specs.Prelude.{Option}
 use Rattle.basics.specs.Lists.{All}
 use Rattle.weight.specs.Weight.{lighter_to}
 use Rattle.weight.specs.Semiring.{sum}
@@ -74,7 +75,7 @@ module _ (ws : List ℕ) where
       marker = record { inside = rw f (table_room ws i t h); row = rw f (t.right i (rw (table_rows ws) at h)); marks = λ k. z (sym (word_kind i r h e) ∙ (rw f at k)) }
 
   -- a closing under the marker rows is one under all rows
-  pub closed_all : (low : ℕ) (ts offs : List ℕ) (new last : Cells) → Markers ws (get_or ws 2 0) offs → Closed low ts (map (row_of_words ws) offs) new last → Closed low ts (automaton_of ws).rows new last
+  pub closed_all : (low : ℕ) (ts : List (Option ℕ)) (offs : List ℕ) (new last : Cells) → Markers ws (get_or ws 2 0) offs → Closed low ts (map (row_of_words ws) offs) new last → Closed low ts (automaton_of ws).rows new last
   unfolding automaton_of
   closed_all low ts offs new last m closed =
       record {
@@ -86,7 +87,7 @@ pub marker_row : (ws : List ℕ) (at : ℕ) (r : Row) → RightTable ws → Mark
 marker_row ws at r t m e = rw e (widened ws _ t m.row, m.marks)
 
 -- one marker row more is closed under
-pub at_row : (ws ts offs : List ℕ) (i at : ℕ) (r : Row) (u : ℕ) (new mid last : Cells) → u < 27 → i < length offs → at ≡ get_or offs i 0 → r ≡ row_of_words ws at → ClosedAt ts (map (row_of_words ws) (take i offs)) u new mid → OneClosed ts r u mid last → ClosedAt ts (map (row_of_words ws) (take (i + 1) offs)) u new last
+pub at_row : (ws : List ℕ) (ts : List (Option ℕ)) (offs : List ℕ) (i at : ℕ) (r : Row) (u : ℕ) (new mid last : Cells) → u < 27 → i < length offs → at ≡ get_or offs i 0 → r ≡ row_of_words ws at → ClosedAt ts (map (row_of_words ws) (take i offs)) u new mid → OneClosed ts r u mid last → ClosedAt ts (map (row_of_words ws) (take (i + 1) offs)) u new last
 at_row ws ts offs i at r u new mid last hu h e er all one =
     rw (add-one i, take-suc offs i 0 h, map-append (row_of_words ws) (take i offs) (get_or offs i 0 ∷ []))
     (at_more ts (map (row_of_words ws) (take i offs)) (row_of_words ws (get_or offs i 0)) u new mid last hu all (rw (er, e) at one))

@@ -9,6 +9,8 @@ use native.Mathlib.Decide.{ℕ_discrete, dec_lt}
 use lib.ListN.{length, get_or}
 use lib.Dec.{ltb, eqb}
 use borrow.Author.Tests.{eq-eqb, ne_eqb, lt-ltb, le-ltb}
+use Rattle.std.specs.Prelude.{Option, None, Some}
+use Rattle.std.specs.Option.{is_some}
 use Rattle.basics.specs.Lists.{All}
 use Rattle.weight.specs.Weight.{lighter_to, joint_to}
 use Rattle.weight.specs.Semiring.{sum}
@@ -23,7 +25,7 @@ use Rattle.table.specs.declared.Row.{Row}
 use Rattle.table.specs.Table.{Automaton, label_of, RightRow}
 use Rattle.togo.specs.ToGo.{Config, marker, pass, read_on, next, step, admits, held, ending, had, kernel}
 use Rattle.togo.specs.Price.{base, cap, key_at, big_price, big_end}
-use Rattle.layer.specs.Layer.{Cells, brings, carries, shut, toll_of, Tolls, Relaxed, Closed, at, Right}
+use Rattle.layer.specs.Layer.{Cells, brings, carries, charge, toll_of, Tolls, Relaxed, Closed, at, Right}
 use Rattle.layer.proofs.Closing.{moves_up, carries_byte, carries_out}
 
 joint_normal : (a b : ℕ) → lighter_to cap (joint_to cap a b) cap ≡ joint_to cap a b
@@ -52,12 +54,12 @@ brings_marker : (b : ℕ) (old : Cells) (q u : ℕ) (r : Row) → (r.kind ≡ 0 
 unfolding brings
 brings_marker b old q u r z = rw (ne_eqb _ _ z)
 
-carries_apart : (ts : List ℕ) (l : Cells) (q u : ℕ) (r : Row) → (r.from ≡ q → ⊥) → carries ts l q u r ≡ cap
+carries_apart : (ts : List (Option ℕ)) (l : Cells) (q u : ℕ) (r : Row) → (r.from ≡ q → ⊥) → carries ts l q u r ≡ cap
 unfolding carries
 carries_apart ts l q u r s = rw (ne_eqb _ _ s) (simp and-false)
 
--- a toll at a position of a line is not the one that says: not here
-pub toll_open : (m p : ℕ) → m < 6 → p ≤ 1025 → digit m p * 1026 ^ (5 - m) < shut
+-- a toll at a position of a line fits a word of 64 bits
+pub toll_open : (m p : ℕ) → m < 6 → p ≤ 1025 → digit m p * 1026 ^ (5 - m) < base
 toll_open zero p h l = omega arith
 toll_open (suc zero) p h l = omega arith
 toll_open (suc (suc zero)) p h l = omega arith
@@ -73,11 +75,11 @@ normal : (t : Bool) (a b : ℕ) → lighter_to cap cap (cond t (joint_to cap a b
 normal true a b = cap_joint a b
 normal false a b = cap_cap cap
 
-carries_normal : (ts : List ℕ) (l : Cells) (q u : ℕ) (r : Row) → lighter_to cap cap (carries ts l q u r) ≡ carries ts l q u r
+carries_normal : (ts : List (Option ℕ)) (l : Cells) (q u : ℕ) (r : Row) → lighter_to cap cap (carries ts l q u r) ≡ carries ts l q u r
 unfolding carries
 carries_normal ts l q u r =
-    normal (not (is_byte (label_of r)) && (ltb (move_of u (marker r)) 27 && (ltb (get_or ts (marker r) 0) shut && eqb r.from q)))
-    (r.weight * base + get_or ts (marker r) 0)
+    normal (not (is_byte (label_of r)) && (ltb (move_of u (marker r)) 27 && (is_some (get_or ts (marker r) None) && eqb r.from q)))
+    (r.weight * base + charge (get_or ts (marker r) None))
     (l r.to (move_of u (marker r)))
 
 -- the price of a row, where it is admitted
@@ -102,7 +104,7 @@ module _ (allow : ℕ → ℕ → Bool) (A : Automaton) where
   abbrev does : ℕ → Config → Row → ℕ
   does m c r = after (least cap) step (held (least cap) allow big_price) (ending (least cap) (big_end A)) c r (go_on m) (step c r)
 
-  module _ (ts : List ℕ) (p : ℕ) (tolls : Tolls allow p ts) (hp : p ≤ 1025) (last : Cells) (q u m : ℕ) (r : Row) (row : RightRow A.states A.vars r) (vars : A.vars ≤ 3) where
+  module _ (ts : List (Option ℕ)) (p : ℕ) (tolls : Tolls allow p ts) (hp : p ≤ 1025) (last : Cells) (q u m : ℕ) (r : Row) (row : RightRow A.states A.vars r) (vars : A.vars ≤ 3) where
     -- a marker row's part is one step of it
     module _ (bs : List ℕ) (s : r.from ≡ q) (z : r.kind ≡ 0 → ⊥)
         (higher : move_of u (marker r) < 27 → last r.to (move_of u (marker r)) ≡ go_on m (at bs p r.to (move_of u (marker r)))) where
@@ -113,13 +115,13 @@ module _ (allow : ℕ → ℕ → Bool) (A : Automaton) where
       unfolding carries step pass next after toll_of
       carried = go (dec_lt (move_of u (marker r)) 27) (allow (marker r) p) refl
         where
-          toll_at : (t : Bool) → allow (marker r) p ≡ t → get_or ts (marker r) 0 ≡ cond t (digit (marker r) p * 1026 ^ (5 - marker r)) shut
+          toll_at : (t : Bool) → allow (marker r) p ≡ t → get_or ts (marker r) None ≡ cond t (Some (digit (marker r) p * 1026 ^ (5 - marker r))) None
           toll_at t e = rw e at (tolls.toll (marker r) six)
 
           go : Dec (move_of u (marker r) < 27) → (t : Bool) → allow (marker r) p ≡ t → carries ts last q u r ≡ does m (at bs p q u) r
           go (no h) t e = rw (eq-eqb _ _ s, ne_eqb _ _ z, le-ltb (move_of u (marker r)) 27 (omega arith))
           go (yes h) true e =
-              rw (eq-eqb _ _ s, ne_eqb _ _ z, lt-ltb _ _ h, toll_at true e, lt-ltb _ _ (toll_open (marker r) p six hp))
+              rw (eq-eqb _ _ s, ne_eqb _ _ z, lt-ltb _ _ h, toll_at true e)
               (ap₂ (joint_to cap) (sym (held_open allow (at bs p q u) r z e)) (higher h))
           go (yes h) false e =
               rw (eq-eqb _ _ s, ne_eqb _ _ z, lt-ltb _ _ h, toll_at false e)
@@ -157,7 +159,7 @@ module _ (allow : ℕ → ℕ → Bool) (A : Automaton) where
         go (yes s) (no z) = ap (λ (x : ℕ). lighter_to cap x (carries ts last q u r)) (brings_marker b old q u r z) ∙ carries_normal ts last q u r ∙ carried (b ∷ bs) s z (λ h. higher h z)
 
   -- what a marker brings where all variables are shut
-  none_carried : (ts : List ℕ) (l : Cells) (q u : ℕ) (r : Row) → RightRow A.states A.vars r → A.vars ≤ 3 → u < 27 → had u ≡ 6 → carries ts l q u r ≡ cap
+  none_carried : (ts : List (Option ℕ)) (l : Cells) (q u : ℕ) (r : Row) → RightRow A.states A.vars r → A.vars ≤ 3 → u < 27 → had u ≡ 6 → carries ts l q u r ≡ cap
   none_carried ts l q u r row vars hu e = go (dec_lt (move_of u (marker r)) 27) (ℕ_discrete r.kind 0)
     where
       seven : (a w : ℕ) → a ≡ 6 → w ≡ suc a → w ≤ 6 → ⊥
@@ -187,7 +189,7 @@ suc_left l x = omega arith
 zero_left : (x : ℕ) → x ≡ 0 + x
 zero_left x = omega arith
 
-module _ (allow : ℕ → ℕ → Bool) (A : Automaton) (vars : A.vars ≤ 3) (rows : All (RightRow A.states A.vars) A.rows) (ts : List ℕ) (p : ℕ) (tolls : Tolls allow p ts) (hp : p ≤ 1025) (mid last : Cells) (closed : Closed (begin A.vars) ts A.rows mid last) where
+module _ (allow : ℕ → ℕ → Bool) (A : Automaton) (vars : A.vars ≤ 3) (rows : All (RightRow A.states A.vars) A.rows) (ts : List (Option ℕ)) (p : ℕ) (tolls : Tolls allow p ts) (hp : p ≤ 1025) (mid last : Cells) (closed : Closed (begin A.vars) ts A.rows mid last) where
   module _ (bs : List ℕ) (b : ℕ) (old blank : Cells) (right : Right allow A bs (p + 1) old) (empty : (q u : ℕ) → q < A.states → u < 27 → blank q u ≡ cap) (relaxed : Relaxed (begin A.vars) b A.rows old blank mid) where
     body : (q u : ℕ) → q < A.states → begin A.vars ≤ u → u < 27 → ((t w : ℕ) → t < A.states → begin A.vars ≤ w → w < 27 → had w ≡ suc (had u) → last t w ≡ kernel (least cap) allow big_price (big_end A) A.rows (at (b ∷ bs) p t w)) → last q u ≡ kernel (least cap) allow big_price (big_end A) A.rows (at (b ∷ bs) p q u)
     unfolding kernel togo

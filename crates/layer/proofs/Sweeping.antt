@@ -8,6 +8,7 @@ use native.Mathlib.Decide.{ℕ_discrete}
 use lib.Dec.{eqb}
 use lib.ListN.{length, get_or, drop}
 use lib.Seq.{drop-cons, drop-length}
+use Rattle.std.specs.Prelude.{Option}
 use Rattle.std.proofs.Common.{add-zero}
 use borrow.Author.Count.{below_more}
 use borrow.Author.Tests.{eq-eqb, ne_eqb}
@@ -57,7 +58,7 @@ ended ws new last t none e q u hq hu = go (ℕ_discrete u 26)
     go (yes k) = rw (eq-eqb _ _ k, k, e.word q hq)
     go (no k) = rw (ne_eqb _ _ k, e.kept q u (omega arith), none.none (q * 27 + u) (omega (arith, few_states ws t))) cap_cut
 
-module _ (ws : List ℕ) (t : RightTable ws) (allow : ℕ → ℕ → Bool) (ts : List ℕ) (p : ℕ) (tolls : Tolls allow p ts) (hp : p ≤ 1025) (low : ℕ) (el : low ≡ begin (automaton_of ws).vars) (new : Layer) (empty : Empty new) (last : Cells) where
+module _ (ws : List ℕ) (t : RightTable ws) (allow : ℕ → ℕ → Bool) (ts : List (Option ℕ)) (p : ℕ) (tolls : Tolls allow p ts) (hp : p ≤ 1025) (low : ℕ) (el : low ≡ begin (automaton_of ws).vars) (new : Layer) (empty : Empty new) (last : Cells) where
   pub end_right : (mid : Layer) → Ended ws (automaton_of ws).states new mid → Closed low ts (automaton_of ws).rows (cells mid) last → Right allow (automaton_of ws) [] p last
   unfolding automaton_of
   end_right mid e closed = right_end allow (automaton_of ws) (few_vars ws t) (rows_right ws t) ts p tolls hp _ last (rw el at closed) (ended ws new mid t empty e)

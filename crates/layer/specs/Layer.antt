@@ -5,8 +5,8 @@
 -- cells l             what the layer l holds: cell (q, u) stands at q × 27 + u, and none is more than "no run"
 -- Empty l             no cell of the layer l has a run
 -- brings b old q u r  what the row r brings to cell (q, u) by reading the byte b, from the cells after that byte
--- shut                a toll that says: not here
--- toll_of allow p m    what marker m adds to the key at position p, or shut
+-- charge t            what a toll adds to a key; nothing, where there is none
+-- toll_of allow p m    what marker m adds to the key at position p, if it may stand there
 -- Tolls allow p ts    ts are the six tolls of position p
 -- carries ts l q u r  what the row r brings to cell (q, u) by its marker, from the cells l of the same position
 -- Relaxed             each cell from setting `low` on is the lighter of what it was and of what all rows bring it
@@ -16,7 +16,8 @@
 --                     byte rows bring nothing is the same over them as over the n rows
 -- at bs p q u         the configuration of a cell
 -- Right               each cell is the weight to go from its configuration
-use Rattle.std.specs.Prelude.{◌≡◌, Bool, cond, ◌&&◌, not, List, map, ℕ, ◌+◌, ◌-◌, ◌*◌, ◌^◌, ◌≤◌, ◌<◌, min, ltb, eqb, length, get_or}
+use Rattle.std.specs.Prelude.{◌≡◌, Bool, cond, ◌&&◌, not, List, map, ℕ, ◌+◌, ◌-◌, ◌*◌, ◌^◌, ◌≤◌, ◌<◌, min, ltb, eqb, length, get_or, Option, None, Some}
+use Rattle.std.specs.Option.{is_some}
 use Rattle.basics.specs.Lists.{All}
 use Rattle.weight.specs.Weight.{lighter_to, joint_to}
 use Rattle.weight.specs.Semiring.{sum}
@@ -45,26 +46,27 @@ pub record Empty (l : Layer) : Type 0 where
 unfoldable pub brings : ℕ → Cells → ℕ → ℕ → Row → ℕ
 brings b old q u r = cond (is_byte (label_of r) && (reads (label_of r) b && eqb r.from q)) (joint_to cap (r.weight * base) (old r.to u)) cap
 
-abbrev pub shut : ℕ
-shut = 18446744073709551615
+abbrev pub charge : Option ℕ → ℕ
+charge None = 0
+charge (Some t) = t
 
-unfoldable pub toll_of : (ℕ → ℕ → Bool) → ℕ → ℕ → ℕ
-toll_of allow p m = cond (allow m p) (digit m p * 1026 ^ (5 - m)) shut
+unfoldable pub toll_of : (ℕ → ℕ → Bool) → ℕ → ℕ → Option ℕ
+toll_of allow p m = cond (allow m p) (Some (digit m p * 1026 ^ (5 - m))) None
 
-pub record Tolls (allow : ℕ → ℕ → Bool) (p : ℕ) (ts : List ℕ) : Type 0 where
+pub record Tolls (allow : ℕ → ℕ → Bool) (p : ℕ) (ts : List (Option ℕ)) : Type 0 where
   pub long : length ts ≡ 6
-  pub toll : (m : ℕ) → m < 6 → get_or ts m 0 ≡ toll_of allow p m
+  pub toll : (m : ℕ) → m < 6 → get_or ts m None ≡ toll_of allow p m
 
-unfoldable pub carries : List ℕ → Cells → ℕ → ℕ → Row → ℕ
+unfoldable pub carries : List (Option ℕ) → Cells → ℕ → ℕ → Row → ℕ
 carries ts l q u r =
-    cond (not (is_byte (label_of r)) && (ltb (move_of u (marker r)) 27 && (ltb (get_or ts (marker r) 0) shut && eqb r.from q)))
-    (joint_to cap (r.weight * base + get_or ts (marker r) 0) (l r.to (move_of u (marker r))))
+    cond (not (is_byte (label_of r)) && (ltb (move_of u (marker r)) 27 && (is_some (get_or ts (marker r) None) && eqb r.from q)))
+    (joint_to cap (r.weight * base + charge (get_or ts (marker r) None)) (l r.to (move_of u (marker r))))
     cap
 
 pub record Relaxed (low b : ℕ) (rows : List Row) (old new last : Cells) : Type 0 where
   pub cell : (q u : ℕ) → low ≤ u → u < 27 → last q u ≡ lighter_to cap (new q u) (sum (least cap) (brings b old q u) rows)
 
-pub record Closed (low : ℕ) (ts : List ℕ) (rows : List Row) (new last : Cells) : Type 0 where
+pub record Closed (low : ℕ) (ts : List (Option ℕ)) (rows : List Row) (new last : Cells) : Type 0 where
   pub cell : (q u : ℕ) → low ≤ u → u < 27 → last q u ≡ lighter_to cap (new q u) (sum (least cap) (carries ts last q u) rows)
   pub kept : (q u : ℕ) → u < low → u < 27 → last q u ≡ new q u
 

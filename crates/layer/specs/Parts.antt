@@ -8,7 +8,7 @@
 -- ClosedAt        the markers of all of `rows`, at setting u
 -- Ended           the end words of the first n states, at setting 26
 -- Stepped         from a layer that is right after the byte b to one that is right before it, at position p
-use Rattle.std.specs.Prelude.{◌≡◌, Bool, List, ◌∷◌, ℕ, ◌+◌, ◌*◌, ◌≤◌, ◌<◌}
+use Rattle.std.specs.Prelude.{◌≡◌, Bool, List, ◌∷◌, ℕ, ◌+◌, ◌*◌, ◌≤◌, ◌<◌, Option}
 use Rattle.weight.specs.Weight.{lighter_to, joint_to}
 use Rattle.weight.specs.Semiring.{sum}
 use Rattle.weight.specs.Tropical.{least}
@@ -33,11 +33,11 @@ pub record RowRelaxed (low from to price k : ℕ) (old new last : Cells) : Type 
 pub record OneRelaxed (low b : ℕ) (r : Row) (old new last : Cells) : Type 0 where
   pub cell : (q u : ℕ) → low ≤ u → u < 27 → last q u ≡ lighter_to cap (new q u) (brings b old q u r)
 
-pub record OneClosed (ts : List ℕ) (r : Row) (u : ℕ) (new last : Cells) : Type 0 where
+pub record OneClosed (ts : List (Option ℕ)) (r : Row) (u : ℕ) (new last : Cells) : Type 0 where
   pub here : (q : ℕ) → last q u ≡ lighter_to cap (new q u) (carries ts new q u r)
   pub there : (q w : ℕ) → w < 27 → (w ≡ u → ⊥) → last q w ≡ new q w
 
-pub record ClosedAt (ts : List ℕ) (rows : List Row) (u : ℕ) (new last : Cells) : Type 0 where
+pub record ClosedAt (ts : List (Option ℕ)) (rows : List Row) (u : ℕ) (new last : Cells) : Type 0 where
   pub here : (q : ℕ) → last q u ≡ lighter_to cap (new q u) (sum (least cap) (carries ts new q u) rows)
   pub there : (q w : ℕ) → w < 27 → (w ≡ u → ⊥) → last q w ≡ new q w
 

@@ -11,14 +11,10 @@ ghost use Rattle.layer.specs.Layer.{held, cells, Empty};
 ghost use Rattle.layer.specs.Parts.{Written, Taken, RowRelaxed, OneRelaxed};
 
 use cell::Cell;
-use table::Row;
+use setting::SETTINGS;
+use table::{MOST_STATES, READS, Row};
 
-const STATES: usize = 32;
-
-// Each of three variables is untouched, open or shut.
-pub const SETTINGS: usize = 27;
-
-const CELLS: usize = STATES * SETTINGS;
+const CELLS: usize = MOST_STATES as usize * SETTINGS;
 
 // A cell for each state and setting: of state q and setting u at q × SETTINGS + u. Two arrays and not one of `Cell`: a step fills and
 // copies a layer, and with 16 bytes a cell in place of 12 it took 1.2 to 2 times as long with `samples/ec.card` and with 248 rows and
@@ -32,7 +28,7 @@ pub struct Layer {
 fn reads(r: Row, b: u32) -> bool
     ensures { result ≡ (is_byte (label_of r) && reads (label_of r) b) }
 {
-    r.kind == 0 && r.argument / 256 <= b && b <= r.argument % 256
+    r.kind == READS && r.argument / 256 <= b && b <= r.argument % 256
 }
 
 impl Layer {

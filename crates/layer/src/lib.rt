@@ -17,8 +17,9 @@ mod cells;
 mod plan;
 
 use cell::Cell;
-use cells::{Layer, SETTINGS};
-use plan::{MARKERS, MOST_ROWS, Plan, SHUT};
+use cells::Layer;
+use plan::{MOST_ROWS, Plan};
+use setting::{MARKERS, SETTINGS};
 use table::Row;
 use table::right::Table;
 
@@ -43,8 +44,9 @@ impl Layer {
         }
     }
 
-    // One marker row at one setting.
-    fn close_one(&mut self, plan: &Plan, tolls: &[u64; MARKERS], r: Row, u: usize)
+    // One marker row at one setting. The tolls of a position go beside the plan through three functions and no further: a struct of the
+    // two would lengthen each use and keep no fact.
+    fn close_one(&mut self, plan: &Plan, tolls: &[Option<u64>; MARKERS], r: Row, u: usize)
         requires right_row { RightRow most_states most_vars r × (r.kind ≡ 0 → ⊥) }
         requires u_bound { u < SETTINGS }
         ensures { OneClosed tolls.now r u (cells self.old) (cells self.new) }
@@ -55,10 +57,9 @@ impl Layer {
         if SETTINGS <= d {
             return;
         }
-        let toll = tolls[m];
-        if toll == SHUT {
+        let Some(toll) = tolls[m] else {
             return;
-        }
+        };
         let far = self.cell(r.to as usize * SETTINGS + d);
         if far.weight == Cell::NONE.weight {
             return;
@@ -71,7 +72,7 @@ impl Layer {
     }
 
     // The marker rows at one setting.
-    fn close_at(&mut self, plan: &Plan, tolls: &[u64; MARKERS], u: usize)
+    fn close_at(&mut self, plan: &Plan, tolls: &[Option<u64>; MARKERS], u: usize)
         requires { u < SETTINGS }
         ensures { ClosedAt tolls.now (map (row_of_words plan.now.table.words.now) plan.now.marks.now) u (cells self.old) (cells self.new) }
     {
@@ -81,7 +82,7 @@ impl Layer {
     }
 
     // The closing: each cell takes the lightest of what it has and of what the markers bring it from cells of the same position.
-    fn close(&mut self, plan: &Plan, tolls: &[u64; MARKERS])
+    fn close(&mut self, plan: &Plan, tolls: &[Option<u64>; MARKERS])
         ensures { Closed plan.now.low tolls.now (automaton_of plan.now.table.words.now).rows (cells self.old) (cells self.new) }
     {
         for u in (plan.low..SETTINGS).rev() {
@@ -129,6 +130,8 @@ impl Plan<'_> {
 
 // The price of the best run that has each marker m at a position from lo[m] to hi[m]. Words and ranges are lent apart: so the clauses
 // promise it, and `Table` or a type of the ranges would ask more of callers. Within, `Plan` keeps what they say.
+// Never inlined: within a caller LLVM spills what the innermost loop counts with, and 248 rows with three variables took a quarter longer.
+#[inline(never)]
 pub fn sweep(t: &[u32], line: &[u8], lo: &[u32], hi: &[u32]) -> Cell
     requires right_table { RightTable t.now × (length line.now ≤ most_bytes) }
     requires in_bounds { (6 ≤ length lo.now) × (6 ≤ length hi.now) }
@@ -137,15 +140,17 @@ pub fn sweep(t: &[u32], line: &[u8], lo: &[u32], hi: &[u32]) -> Cell
     let table = Table { words: t };
     let moves = setting::moves();
     let mut all = [0; MOST_ROWS];
-    let count = plan::gather(&table, &mut all);
+    let marks = plan::gather(&table, &mut all);
     let plan = Plan {
         table,
-        marks: &all[..count],
+        marks,
         moves: &moves,
         lo,
         hi,
         low: plan::lowest(table.vars()),
     };
+    // By number: over `line.iter().enumerate().rev()` the loop's step was not proved. std has no lemma for what that chain gives, so the
+    // invariant had to speak of the fields inside the two adapters.
     let mut l = plan.end_layer(line.len() + 1);
     for i in (0..line.len()).rev() {
         l = plan.step(i + 1, line[i], l);

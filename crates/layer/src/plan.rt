@@ -8,24 +8,16 @@ ghost use Rattle.setting.specs.Setting.{begin, Moves};
 ghost use Rattle.table.specs.Table.{automaton_of, most_vars, most_bytes};
 ghost use Rattle.togo.specs.Price.{allowed};
 ghost use Rattle.layer.specs.Layer.{toll_of, Tolls, Markers};
-ghost use Rattle.layer.specs.declared.cells.TheConstants.{SETTINGS};
-ghost use Rattle.layer.specs.declared.plan.TheConstants.{MARKERS};
+ghost use Rattle.setting.specs.declared.TheConstants.{MARKERS, SETTINGS};
 ghost use Rattle.layer.specs.Props.{Markers-prop, Moves-prop};
 
-use crate::cells::SETTINGS;
+use cell::BASE;
+use setting::{MARKERS, SETTINGS};
+use table::READS;
 use table::right::Table;
 
 // As many rows as a table may have.
-pub const MOST_ROWS: usize = 1024;
-
-// The markers of three variables, each opened and closed.
-pub const MARKERS: usize = 6;
-
-// A position of a line of 1,024 bytes is below this, so six of them are the digits of a key.
-const BASE: u64 = 1026;
-
-// A toll that says: not here, as it stands in `Tolls` and `carries` of specs/Layer.antt: a toll is one number there.
-pub const SHUT: u64 = u64::MAX;
+pub const MOST_ROWS: usize = table::MOST_ROWS as usize;
 
 #[derive(Clone, Copy)]
 pub struct Plan<'a> {
@@ -51,19 +43,23 @@ pub fn lowest(k: u32) -> usize
     SETTINGS - 3_usize.pow(k)
 }
 
-// Where the marker rows start, found once for a line.
-pub fn gather(table: &Table, marks: &mut [u32; MOST_ROWS]) -> usize
-    ensures { (result ≤ MOST_ROWS) × Markers table.now.words.now (get_or table.now.words.now 2 0) (take result marks.new) }
+// Where the marker rows start, found once for a line and not anew at each setting. Row starts and not rows, which would take 20 KB of
+// stack in place of 4.
+pub fn gather<'b>(table: &Table, marks: &'b mut [u32; MOST_ROWS]) -> &'b [u32]
+    ensures { Markers table.now.words.now (get_or table.now.words.now 2 0) result.now }
 {
+    // Counted by hand: what a filter leaves is collected into a heap, and there is none.
     let mut count = 0;
     for i in 0..table.rows() {
-        if table.row(i).kind != 0 {
+        if table.row(i).kind != READS {
             marks[count] = table.row_start(i) as u32;
             count += 1;
         }
     }
-    count
+    &marks[..count]
 }
+
+// A bound on a number, as on m and p here, is what the caller knows of it: a type around each number would be no plainer.
 
 // What is compared of position p of marker m (01, "The table": the order of sets).
 fn digit(m: usize, p: usize) -> u64
@@ -78,29 +74,22 @@ fn place(m: usize) -> u64
     requires { m < MARKERS }
     ensures { result ≡ 1026 ^ (5 - m) }
 {
-    match m {
-        0 => BASE * BASE * BASE * BASE * BASE,
-        1 => BASE * BASE * BASE * BASE,
-        2 => BASE * BASE * BASE,
-        3 => BASE * BASE,
-        4 => BASE,
-        _ => 1,
-    }
+    BASE.pow((MARKERS - 1 - m) as u32)
 }
 
 impl Plan<'_> {
     // What marker m adds to a key at position p, if p is one of its positions.
-    fn toll(&self, m: usize, p: usize) -> u64
+    fn toll(&self, m: usize, p: usize) -> Option<u64>
         requires { (m < MARKERS) × (p ≤ most_bytes + 1) }
         ensures { result ≡ toll_of (allowed self.now.lo.now self.now.hi.now) p m }
     {
         if p < self.lo[m] as usize || (self.hi[m] as usize) < p {
-            return SHUT;
+            return None;
         }
-        digit(m, p) * place(m)
+        Some(digit(m, p) * place(m))
     }
 
-    pub fn tolls(&self, p: usize) -> [u64; MARKERS]
+    pub fn tolls(&self, p: usize) -> [Option<u64>; MARKERS]
         requires { p ≤ most_bytes + 1 }
         ensures { Tolls (allowed self.now.lo.now self.now.hi.now) p result }
     {

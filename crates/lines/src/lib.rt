@@ -7,7 +7,7 @@ ghost use Rattle.std.proofs.Math.Seq.{paste};
 ghost use Rattle.std.specs.List.{position};
 ghost use Rattle.lines.specs.Ends.{EndsAt, lf};
 
-pub const LF: u8 = 10;
+pub const LF: u8 = b'\n';
 
 fn first_lf(text: &[u8]) -> Option<usize>
     ensures { result ≡ position (λ b. b == lf) text.now }
@@ -16,7 +16,8 @@ fn first_lf(text: &[u8]) -> Option<usize>
 }
 
 // Where the line that `at` stands in ends: its LF, or the end of the text. A text and a place apart, as for `keep` a buffer and its
-// length: so the clauses promise it, and a type of the two would ask more of callers.
+// length: so the clauses promise it, and a type of the two would ask more of callers. A text with no LF gives its length and not None:
+// so `EndsAt` says it, and both callers go on from there as from an LF.
 pub fn line_end(text: &[u8], at: usize) -> usize
     requires { at ≤ length text.now }
     ensures { EndsAt text.now at result }

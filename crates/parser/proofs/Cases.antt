@@ -40,8 +40,8 @@ module _ {b x : ℕ} (e : b ≡ x) where
   pub above : 49 ≤ b → 49 ≤ x
   above h = omega arith
 
-  pub over : {k : ℕ} → k < b - 48 → 48 + k < x
-  over h = omega arith
+  pub over : {k v : ℕ} → v ≡ b - 48 → k < v → 48 + k < x
+  over g h = omega arith
 
-  pub under : {k : ℕ} → b - 48 ≤ k → x ≤ 48 + k
-  under h = omega arith
+  pub under : {k v : ℕ} → v ≡ b - 48 → v ≤ k → x ≤ 48 + k
+  under g h = omega arith

@@ -84,8 +84,8 @@ module _ (s : List ℕ) (at : ℕ) (e : get_or s at 0 ≡ 35) where
             runs = λ k d a. ap (run k (after d a)) f ∙ rw (h1, h2, h);
           }
 
-pub charged : {s : List ℕ} {at n x y z a b c : ℕ} {p : Part} → a ≡ x → b ≡ y → c ≡ z → p ≡ level n 0 (three a b c) → Marked s at n (three x y z) → Marked s at p.next p.nul
-charged e f g h m = rw (h, e, f, g) m
+pub charged : {s : List ℕ} {at n a b c : ℕ} {p : Part} (x y z : ℕ) → a ≡ x - 48 → b ≡ y - 48 → c ≡ z - 48 → p ≡ level n 0 (a * 100 + b * 10 + c) → Marked s at n (three x y z) → Marked s at p.next p.nul
+charged x y z e f g h m = rw (h, e, f, g) m
 
 -- none
 pub posts_none : (s : List ℕ) (at : ℕ) → at ≤ length s → (eqb (get_or s at 0) 42 ≡ false) × (eqb (get_or s at 0) 35 ≡ false) → PostsDone s at at (λ a. a)

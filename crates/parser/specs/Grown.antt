@@ -4,7 +4,8 @@
 -- Grown a o c₀ c₁ l₀ l₁ n the steps of a are numbered from o on, and there is room for them: its arcs and its labels are there; n is its
 --                         weight for no step, room or not
 -- Turned turn o mid ..    the same of what postfixes make of a tree, whose steps go from o up to mid
--- Stepped o k v ..        a step of kind k and argument v
+-- numbered k             the number of a kind, in the words of a table
+-- Stepped o k v ..        a step of the kind with number k, and argument v
 -- Entered o b .. r        the opening of the bracket b, with r steps: a group has none
 -- Left o b st nul .. r    the closing of the bracket b, with an inside of st steps and weight nul for none; r is the weight of the whole
 use Rattle.std.specs.Prelude.{◌≡◌, List, [], ◌∷◌, ℕ, ◌+◌, ◌*◌, ◌≤◌, ◌<◌, length, get_or}
@@ -17,6 +18,8 @@ use Rattle.arcs.specs.Core.{core}
 use Rattle.arcs.specs.Arcs.{arc}
 use Rattle.grid.specs.Cells.{Leafed, Joined}
 use Rattle.grid.specs.Grow.{Fresh, Built}
+use Rattle.parser.specs.declared.Kind.{Kind}
+use Rattle.parser.specs.declared.Kind.TheVariants.{Reads, Opens, Closes}
 use Rattle.parser.specs.declared.Bracket.{Bracket}
 use Rattle.parser.specs.declared.Bracket.TheVariants.{Group, Capture}
 
@@ -35,6 +38,11 @@ pub record Turned (turn : Pat → Pat) (o mid n : ℕ) (c₀ c₁ : List ℕ) (m
   pub grows : (a : Pat) → tolls (core a) ≤ tolls (core (turn a))
   pub same : (a : Pat) → labels_of (turn a) ≡ labels_of a
   pub built : (a : Pat) (old : List ℕ) → o + steps_of a ≡ mid → tolls (core (turn a)) ≤ mark → Fresh o old → Built (core a) o old c₀ n → Built (core (turn a)) o old c₁ m
+
+abbrev pub numbered : Kind → ℕ
+numbered Reads = 0
+numbered Opens = 1
+numbered Closes = 2
 
 pub record Stepped (o k v : ℕ) (c₀ c₁ l₀ l₁ : List ℕ) (n : ℕ) : Type 0 where
   pub root : n ≡ mark

@@ -3,39 +3,34 @@
 // passes twice over the 1,024 cells. Stack: 400 bytes for each open bracket, 288 for each factor of a term; 102 KB for 255 `(`.
 #![tactic(auto)]
 
-ghost use Rattle.std.specs.Prelude.{◌≡◌, ◌+◌, ◌*◌, ◌≤◌, ◌<◌, max, length, get_or, true, false, MatchResult};
+ghost use Rattle.std.specs.Prelude.{◌≡◌, ◌+◌, ◌-◌, ◌*◌, ◌≤◌, ◌<◌, max, length, get_or, true, false, MatchResult};
 ghost use Rattle.pattern.specs.Bytes.{shown};
 ghost use Rattle.pattern.specs.Grammar.{Pattern, Term, Factor, Atom};
-ghost use Rattle.pattern.specs.Machine.{starts};
+ghost use Rattle.pattern.specs.Machine.{starts, digit};
 ghost use Rattle.pattern.specs.Found.{AtomStop, FactorStop, TermStop, PatternStop};
 ghost use Rattle.refusal.specs.declared.Refusal.TheVariants.{NoPattern};
 ghost use Rattle.parser.specs.Brackets.{closed_by};
 ghost use Rattle.parser.specs.Result.{Opens, Marks, Posted, Parses, Answers};
 ghost use Rattle.parser.specs.Parts.{level, postfixed, beside, between};
-ghost use Rattle.parser.specs.Grown.{Stepped, Entered, Left};
+ghost use Rattle.parser.specs.Grown.{numbered, Stepped, Entered, Left};
 
+use grid::{CELLS, NO_ARC, STATES, STEPS};
 use pattern::Class;
 use refusal::Refusal;
-use weight::Weight;
 
-// The words of the arcs: from each of 32 states to each.
-const CELLS: usize = 1024;
+// The words of the labels: two for each state, though the first takes no step.
+pub const LABELS: usize = 2 * STATES;
 
-// The words of the labels, two for a step.
-const LABELS: usize = 64;
+// How many bytes there are: a label of a range has its two ends in one word, as the two digits of a number to this base.
+const BYTES: u32 = 256;
 
-// The steps for which there is room.
-const ROOM: usize = 31;
-
-// The kinds of a label: numbers, as they stand in the words of a table.
-const READS: u32 = 0;
-
-const OPENS: u32 = 1;
-
-const CLOSES: u32 = 2;
-
-// What has to be taken: no weight for no step. The mark, which is a weight and no flag: `lighter` and `sum` go on with it.
-const MUST: u32 = Weight::MARK.number;
+// What a step does, numbered as in the words of a table.
+#[derive(Clone, Copy)]
+enum Kind {
+    Reads = 0,
+    Opens = 1,
+    Closes = 2,
+}
 
 // A part of the text: the place after it, its steps, its nesting, and what is charged where it takes no step; the mark, if it must take one.
 #[derive(Clone, Copy)]
@@ -141,6 +136,7 @@ fn demand(holds: bool, place: usize) -> Result<(), Refusal>
     }
 }
 
+// A byte that is shown, reserved or not. Its class would not be plainer: that tells twelve reserved bytes apart before the same range.
 fn printable(b: u8) -> bool
     ensures { result ≡ shown b }
 {
@@ -151,26 +147,28 @@ fn printable(b: u8) -> bool
 fn bytes(lo: u8, hi: u8) -> u32
     ensures { result ≡ lo * 256 + hi }
 {
-    lo as u32 * 256 + hi as u32
+    u32::from(lo) * BYTES + u32::from(hi)
 }
 
-// The arcs and the labels go side by side: a struct that held both would have each contract promise that it holds the same two still.
+// The arcs and the labels go side by side. In a struct that held both, each contract promised besides that it holds the same two still,
+// and `parse` did not prove: how long an array is that lies behind a field was not known there, and a field whose struct says it in a
+// ghost field cannot be lent.
 // Step o, where there is room for it: its arcs and its label. A part that is one step must take it.
 fn step(
     cells: &mut [u32; CELLS],
     labels: &mut [u32; LABELS],
     o: usize,
-    kind: u32,
+    kind: Kind,
     argument: u32,
 ) -> u32
-    ensures { Stepped o kind argument cells.old cells.new labels.old labels.new result }
+    ensures { Stepped o (numbered kind) argument cells.old cells.new labels.old labels.new result }
 {
-    if o < ROOM {
-        labels[2 * o] = kind;
+    if o < STEPS {
+        labels[2 * o] = kind as u32;
         labels[2 * o + 1] = argument;
         return grid::leaf(cells, o);
     }
-    MUST
+    NO_ARC
 }
 
 // The step of an opening bracket, and how many that is: a group has none.
@@ -181,7 +179,7 @@ fn enter(cells: &mut [u32; CELLS], labels: &mut [u32; LABELS], o: usize, bracket
     match bracket {
         Bracket::Group => 0,
         Bracket::Capture { variable } => {
-            step(cells, labels, o, OPENS, variable);
+            step(cells, labels, o, Kind::Opens, variable);
             1
         }
     }
@@ -203,9 +201,9 @@ fn leave(
         Bracket::Capture { variable } => {
             let mid = o + 1;
             let end = mid + part.steps;
-            let shut = step(cells, labels, end, CLOSES, variable);
+            let shut = step(cells, labels, end, Kind::Closes, variable);
             let inner = grid::join(cells, mid, end, part.nul, shut);
-            grid::join(cells, o, mid, MUST, inner)
+            grid::join(cells, o, mid, NO_ARC, inner)
         }
     }
 }
@@ -218,16 +216,14 @@ struct Text<'a> {
     ghost short: { length bytes.now ≤ 255 },
 }
 
+// That a place is in the text or at its end stands in nine contracts, and that no more steps than bytes are before it in four: a type of
+// such places would be no plainer, since it would be made, and its bounds proved, at each byte and each step that is passed.
 impl Text<'_> {
-    // Past the end as if a byte 0 stood there, which stands nowhere in a pattern: an `Option` would be taken apart at each of ten uses.
+    // Past the end as if a byte 0 stood there, which stands nowhere in a pattern: an `Option` would be taken apart at each use.
     fn byte_at(&self, at: usize) -> u8
         ensures { result ≡ get_or self.now.bytes.now at 0 }
     {
-        if at < self.bytes.len() {
-            self.bytes[at]
-        } else {
-            0
-        }
+        self.bytes.get(at).copied().unwrap_or(0)
     }
 
     // At a `\`.
@@ -274,7 +270,7 @@ impl Text<'_> {
         let which = at + 1;
         let d = self.byte_at(which);
         demand(b'1' <= d, which)?;
-        let variable = (d - b'0') as u32;
+        let variable = u32::from(d - b'0');
         demand(variable <= self.k, which)?;
         let colon = which + 1;
         demand(self.byte_at(colon) == b':', colon)?;
@@ -332,21 +328,28 @@ impl Text<'_> {
         }
     }
 
+    // The digit that has to stand there.
+    fn digit(&self, at: usize) -> Result<u32, Refusal>
+        requires { at < 512 }
+        ensures { MatchResult result (λ d. (digit (get_or self.now.bytes.now at 0) ≡ true) × (d ≡ get_or self.now.bytes.now at 0 - 48)) (λ e. (digit (get_or self.now.bytes.now at 0) ≡ false) × (e ≡ NoPattern at)) }
+    {
+        let b = self.byte_at(at);
+        demand(b.is_ascii_digit(), at)?;
+        Ok(u32::from(b - b'0'))
+    }
+
     // At a `#`: the weight mark as a part with no step.
     fn mark(&self, at: usize) -> Result<Part, Refusal>
         requires { (at ≤ length self.now.bytes.now) × (get_or self.now.bytes.now at 0 ≡ 35) }
         ensures { Marks self.now.bytes.now at result }
     {
         let one = at + 1;
-        let x = self.byte_at(one);
-        demand(x.is_ascii_digit(), one)?;
+        let x = self.digit(one)?;
         let two = one + 1;
-        let y = self.byte_at(two);
-        demand(y.is_ascii_digit(), two)?;
+        let y = self.digit(two)?;
         let three = two + 1;
-        let z = self.byte_at(three);
-        demand(z.is_ascii_digit(), three)?;
-        let weight = (x - b'0') as u32 * 100 + (y - b'0') as u32 * 10 + (z - b'0') as u32;
+        let z = self.digit(three)?;
+        let weight = x * 100 + y * 10 + z;
         Ok(Part::level(three + 1, 0, weight))
     }
 
@@ -386,7 +389,7 @@ impl Text<'_> {
             Err(refusal) => Err(refusal),
             Ok(Head::Empty { next }) => Ok(Part::level(next, 0, 0)),
             Ok(Head::Byte { next, argument }) => {
-                let nul = step(cells, labels, o, READS, argument);
+                let nul = step(cells, labels, o, Kind::Reads, argument);
                 Ok(Part::level(next, 1, nul))
             }
             Ok(Head::Open { inside, bracket }) => {

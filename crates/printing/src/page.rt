@@ -1,4 +1,5 @@
-// A lent buffer, and where the next byte is put.
+// A lent buffer, and where the next byte is put. Not a Display of an answer: what is put is promised byte for byte, also into a buffer that
+// is too short for it, and Display promises nothing of what it writes.
 ghost use Rattle.std.specs.Prelude.{◌≡◌, ◌≤◌, length};
 
 use reader::Answer;

@@ -8,7 +8,7 @@ ghost use Rattle.promises.specs.Reading.{CardAnswer};
 use reader::Answer;
 
 // Enough for every table of 31 steps: 32 states and 992 rows.
-pub const ROOM: usize = 4995;
+pub const ROOM: usize = compiler::ROOM;
 
 // The best reading of a line by a card. Takes about 20 KB of stack for the table besides what compiling and reading take.
 pub fn read_card(card: &[u8], line: &[u8]) -> Answer

@@ -1,6 +1,6 @@
 -- The cases of reading, one for each number and one for each answer: what the code has seen makes the answer right.
 --
--- Refuses         what `readable` answers: 7, 8 or no refusal
+-- Refuses         what `readable` answers: 7, 8 or the table
 -- open_ranges, pinned_ranges   the ranges that the two questions are asked with
 use Rattle.std.specs.Prelude.{◌≡◌, refl, Bool, true, ◌&&◌, List, [], ◌∷◌, ℕ, zero, suc, ◌+◌, ◌*◌, ◌≤◌, ◌<◌, eqb, leb, length, Result, Ok, Err}
 use Rattle.std.proofs.Common.{sym, arith}
@@ -10,6 +10,7 @@ use Rattle.refusal.specs.Numbers.{number_of, place_of}
 use Rattle.weight.specs.Weight.{mark}
 use Rattle.spans.specs.declared.Spans.{Spans}
 use Rattle.spans.specs.Spans.{SetOfSpans, digits}
+use Rattle.table.specs.declared.right.Table.{Table}
 use Rattle.table.specs.Table.{RightTable, automaton_of, most_bytes}
 use Rattle.togo.specs.Price.{base, allowed, answer}
 use Rattle.togo.specs.Sets.{Pinned}
@@ -18,10 +19,10 @@ use Rattle.best.specs.Questions.{Open, set_answer, best_answer, none_answer}
 use Rattle.reader.specs.Answers.{reading, no_reading, refusal, Fails, table, long, FailsSet, reading_it, no_set, BestAnswer, not_read, best, no_run, SetAnswer, not_weighed, weight, weighed}
 use Rattle.spans.specs.Spans.{none}
 
--- the lowest of 7 and 8 that could be given, or none
-pub data Refuses (ws line : List ℕ) : Result (Unit {0}) Refusal → Type 0 where
+-- the lowest of 7 and 8 that could be given, or the table of these words
+pub data Refuses (ws line : List ℕ) : Result Table Refusal → Type 0 where
   by : {r : Refusal} → Fails ws line (number_of r) → ((m : ℕ) → m < number_of r → Fails ws line m → ⊥) → place_of r ≡ 0 → Refuses ws line (Err r)
-  fits : RightTable ws → length line ≤ most_bytes → Refuses ws line (Ok tt)
+  fits : {t : Table} → t.words.now ≡ ws → length line ≤ most_bytes → Refuses ws line (Ok t)
 
 -- no refusal says that the table is right and the line short enough
 pub record Readable (ws line : List ℕ) : Type 0 where
@@ -62,8 +63,11 @@ module _ {ws line : List ℕ} where
       lows m k (reading_it g) = low m k g
       lows m k (no_set g) = omega (arith, at_most f)
 
-  pub readable : {u : Unit {0}} → Refuses ws line (Ok u) → Readable ws line
-  readable (fits r l) = record { right = r; short = l }
+  pub readable : {t : Table} → Refuses ws line (Ok t) → Readable ws line
+  readable (fits {t} e l) = record { right = rw (← e) t.right; short = l }
+
+  pub vars_of : {t : Table} {k : ℕ} → Refuses ws line (Ok t) → k ≡ (automaton_of t.words.now).vars → k ≡ (automaton_of ws).vars
+  vars_of (fits e l) v = rw e at v
 
   pub not_a_set : {t : Spans} → RightTable ws → length line ≤ most_bytes → (SetOfSpans (automaton_of ws).vars (length line) t → ⊥) → SetAnswer ws line t (refusal 9 0)
   not_a_set {t} r l f = not_weighed (no_set f) low

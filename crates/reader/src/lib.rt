@@ -9,8 +9,11 @@ ghost use Rattle.reader.specs.Answers.{weighed, read, SetAnswer, BestAnswer};
 ghost use Rattle.reader.specs.Cases.{Refuses};
 ghost use Rattle.reader.specs.declared.Answer.TheVariants.{Refused};
 
+use cell::BASE;
 use refusal::Refusal;
+use setting::MARKERS;
 use spans::Spans;
+use table::right::Table;
 use weight::Weight;
 
 // The longest line that is read.
@@ -18,9 +21,6 @@ pub const MOST_BYTES: usize = 1024;
 
 // The last position: after the last byte of the longest line.
 const LAST: u32 = MOST_BYTES as u32 + 1;
-
-// A key is six positions, digits in this base.
-const BASE: u64 = LAST as u64 + 1;
 
 // What is said of a line, by name: a reading, no reading, or a refusal. An enum of three and not a Result, since the answer for a line
 // is one of the forms in docs/DECISIONS.md ("Forms"). Its refusal keeps the number and the place themselves: `printing::answer`
@@ -43,18 +43,18 @@ impl From<Refusal> for Answer {
     }
 }
 
-// Whether the line can be read by the table.
+// The table that the line can be read by.
 #[tactic(auto, using(crate::specs::Cases::seven, crate::specs::Cases::eight, crate::specs::Cases::fits))]
-fn readable(table: &[u32], line: &[u8]) -> Result<(), Refusal>
-    ensures { Refuses table.now line.now result }
+fn readable<'a>(words: &'a [u32], line: &[u8]) -> Result<Table<'a>, Refusal>
+    ensures { Refuses words.now line.now result }
 {
-    if !table::is_right(table) {
+    let Some(table) = Table::of(words) else {
         return Err(Refusal::WrongTable);
-    }
+    };
     if MOST_BYTES < line.len() {
         return Err(Refusal::LongLine);
     }
-    Ok(())
+    Ok(table)
 }
 
 // The weight of a set, the mark included.
@@ -62,12 +62,11 @@ fn readable(table: &[u32], line: &[u8]) -> Result<(), Refusal>
 pub fn weight_of_set(table: &[u32], line: &[u8], set: Spans) -> Result<Weight, Refusal>
     ensures { SetAnswer table.now line.now set (weighed result) }
 {
-    readable(table, line)?;
-    let k = table[1];
-    if !set.is_set(k, line.len()) {
+    let right = readable(table, line)?;
+    if !set.is_set(right.vars(), line.len()) {
         return Err(Refusal::NoSpans);
     }
-    let at: [u32; 6] = set.into();
+    let at: [u32; MARKERS] = set.into();
     let sum = layer::sweep(table, line, &at, &at);
     let weight = Weight { number: sum.weight };
     Ok(weight)
@@ -85,14 +84,7 @@ fn digit(key: u64, m: u32) -> u32
 fn spans_of(key: u64) -> Spans
     ensures { result ≡ spans_of_key key }
 {
-    Spans {
-        s1: digit(key, 0),
-        e1: digit(key, 1),
-        s2: digit(key, 2),
-        e2: digit(key, 3),
-        s3: digit(key, 4),
-        e3: digit(key, 5),
-    }
+    Spans::from(std::array::from_fn(|m| digit(key, m as u32)))
 }
 
 #[tactic(auto, using(crate::specs::Cases::not_read_so))]
@@ -102,8 +94,8 @@ pub fn best_reading(table: &[u32], line: &[u8]) -> Answer
     if let Err(r) = readable(table, line) {
         return r.into();
     }
-    let lo = [0; 6];
-    let hi = [LAST; 6];
+    let lo = [0; MARKERS];
+    let hi = [LAST; MARKERS];
     let cell = layer::sweep(table, line, &lo, &hi);
     let weight = Weight {
         number: cell.weight,

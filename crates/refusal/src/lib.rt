@@ -6,14 +6,14 @@ ghost use Rattle.std.specs.Prelude.{◌≡◌};
 ghost use Rattle.refusal.specs.declared.Refusal.TheVariants.{WrongCard};
 ghost use Rattle.refusal.specs.Numbers.{number_of, line_of, place_of};
 
-// One of the two lines of a card.
-#[derive(Clone, Copy, PartialEq, Eq, Debug)]
+// One of the two lines of a card, by its place.
+#[derive(Clone, Copy)]
 pub enum CardLine {
-    First,
-    Second,
+    First = 1,
+    Second = 2,
 }
 
-#[derive(Clone, Copy, PartialEq, Eq, Debug)]
+#[derive(Clone, Copy)]
 pub enum Refusal {
     // More variables than a card may have.
     Variables,
@@ -50,10 +50,7 @@ impl CardLine {
     pub fn place(self) -> u32
         ensures { result ≡ line_of self }
     {
-        match self {
-            CardLine::First => 1,
-            CardLine::Second => 2,
-        }
+        self as u32
     }
 }
 

@@ -38,12 +38,13 @@ impl<const N: usize> Buffer<N> {
     }
 
     pub fn clear(&mut self)
-        ensures { self.new.len ≡ 0 }
+        ensures { (self.new.len ≡ 0) × (self.new.bytes ≡ self.old.bytes) }
     {
         self.len = 0;
     }
 
-    // Puts the text, as much of it as there is room for.
+    // Puts the text, as much of it as there is room for. Not by printing's `Page`, which borrows a slice: one would be made and taken
+    // apart for the one call of `lines::keep` that both are.
     pub fn keep(&mut self, text: &[u8])
         ensures { Puts self.old.bytes self.old.len text.now self.new.bytes self.new.len }
     {
@@ -75,6 +76,7 @@ impl<const N: usize> Buffer<N> {
         ensures flushed { OnOk result (self.new.len ≡ 0) }
         ensures written { OnOk result (Appends (W.contents to.old) (W.contents to.new) (take self.old.len self.old.bytes)) }
         ensures failed { OnErr result (self.new ≡ self.old) }
+        ensures same { self.new.bytes ≡ self.old.bytes }
     {
         to.write_all(self.filled())?;
         to.flush()?;
@@ -84,7 +86,8 @@ impl<const N: usize> Buffer<N> {
 
     // The same where an answer might not fit any more.
     pub fn spare<W: Write>(&mut self, to: &mut W) -> io::Result<()>
-        ensures { OnErr result (self.new ≡ self.old) }
+        ensures failed { OnErr result (self.new ≡ self.old) }
+        ensures same { self.new.bytes ≡ self.old.bytes }
     {
         if N - self.len < printing::MOST {
             return self.flush(to);

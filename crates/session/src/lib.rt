@@ -1,7 +1,9 @@
 // One run of the program `reading`: a card, then lines, from a reader to a writer.
 // Input of any size in bounded memory: of a line, or of a line of the card, 1,025 bytes are held, which is as far as it matters.
 // A line that stands whole in a piece of input is read in place. What is printed goes out before each wait for input.
-// The run and the piece of input lie in the frame of `serve`, 152 KB of stack, and are lent from there; no array is moved or copied.
+// The run and the piece of input lie in the frame of `serve`, 152 KB of stack, and are lent from there. `Run::new` and `Buffer::new` give
+// their arrays by value; the linked program comes through with 160 KB where there is no card (measured by bench/stack.py), which leaves no
+// room for a second copy of a piece or of the table.
 #![tactic(auto)]
 
 mod buffer;

@@ -1,6 +1,7 @@
 // Where a run has come to, with the bytes that it holds and the table that it reads by; and its steps.
-ghost use Rattle.std.specs.Prelude.{◌≡◌, ◌↔◌, ◌≤◌, IsTrue, OnErr, OnOk};
+ghost use Rattle.std.specs.Prelude.{◌≡◌, ◌↔◌, ◌⊎◌, ◌≤◌, IsTrue, OnErr, OnOk};
 ghost use Rattle.session.specs.declared.TheConstants.{MOST_LINES};
+ghost use Rattle.session.specs.declared.state.Part.TheVariants.{SecondLine, Lines, Over};
 
 use crate::MOST_LINES;
 use crate::buffer::Buffer;
@@ -10,7 +11,10 @@ use std::io;
 use std::io::{Read, Write};
 
 // Words for the table: enough for every pattern of 31 steps, which has 32 states and at most 992 rows.
-const ROOM: usize = 4995;
+const ROOM: usize = compiler::ROOM;
+
+// The word of a table that holds K, the number of its variables.
+const VARS: usize = 1;
 
 // Bytes of a line that are held: one more than a line may have, so that a line that is too long is seen to be.
 const HELD: usize = reader::MOST_BYTES + 1;
@@ -29,6 +33,7 @@ pub enum Part {
 
 // line: the number of the next line, counted from 1. held: what an earlier piece of input had of the line, or of the card.
 // out: what waits to be written. room: the words of the table.
+// Each step that answers says that nothing is held after it: so no byte of a card or a line counts for the next line.
 #[derive(Drop)]
 pub struct Run {
     part: Part,
@@ -58,11 +63,12 @@ impl Run {
 
     // Prints the answer to a line, of which nothing is held any more.
     fn answer<W: Write>(&mut self, found: Answer, to: &mut W) -> io::Result<()>
-        ensures answered { OnOk result (self.new.held.len ≡ 0) }
+        ensures answered { OnOk result ((self.new.held.len ≡ 0) × (self.new.held.bytes ≡ self.old.held.bytes)) }
         ensures failed { OnErr result (self.new ≡ self.old) }
+        ensures same { self.new.room ≡ self.old.room }
     {
         self.out.spare(to)?;
-        self.out.print(self.line, self.room[1], found);
+        self.out.print(self.line, self.room[VARS], found);
         self.held.clear();
         if self.line == MOST_LINES {
             self.part = Part::Over;
@@ -74,8 +80,9 @@ impl Run {
 
     // Reads and answers the line that is held.
     fn held_line<W: Write>(&mut self, to: &mut W) -> io::Result<()>
-        ensures answered { OnOk result (self.new.held.len ≡ 0) }
+        ensures answered { OnOk result ((self.new.held.len ≡ 0) × (self.new.held.bytes ≡ self.old.held.bytes)) }
         ensures failed { OnErr result (self.new ≡ self.old) }
+        ensures same { self.new.room ≡ self.old.room }
     {
         let found = reader::best_reading(&self.room, self.held.filled());
         self.answer(found, to)
@@ -83,7 +90,9 @@ impl Run {
 
     // Prints that the card is refused, which ends the run.
     fn refuse(&mut self, refusal: Refusal)
-        ensures { self.new.held.len ≡ 0 }
+        ensures over { self.new.part ≡ Over }
+        ensures answered { (self.new.held.len ≡ 0) × (self.new.held.bytes ≡ self.old.held.bytes) }
+        ensures same { (self.new.room ≡ self.old.room) × (self.new.line ≡ self.old.line) }
     {
         self.out.print(0, 0, refusal.into());
         self.held.clear();
@@ -91,7 +100,10 @@ impl Run {
     }
 
     // Line 1 of the card is held: a wrong one is refused with no wait for line 2.
-    fn first_line(&mut self) {
+    fn first_line(&mut self)
+        ensures goes_on { self.new.part ≡ SecondLine → (self.new.held ≡ self.old.held) × (self.new.out ≡ self.old.out) }
+        ensures same { (self.new.room ≡ self.old.room) × (self.new.line ≡ self.old.line) × (self.new.held.bytes ≡ self.old.held.bytes) }
+    {
         match card::form_of(self.held.filled()) {
             Err(line @ CardLine::First) => self.refuse(line.into()),
             _ => self.part = Part::SecondLine,
@@ -100,7 +112,9 @@ impl Run {
 
     // The card is held, whole or as far as the input went.
     fn whole_card(&mut self)
-        ensures { self.new.held.len ≡ 0 }
+        ensures answered { self.new.held.len ≡ 0 }
+        ensures goes_on { self.new.part ≡ Lines → self.new.out ≡ self.old.out }
+        ensures same { (self.new.line ≡ self.old.line) × (self.new.held.bytes ≡ self.old.held.bytes) }
     {
         match compiler::compile_card(self.held.filled(), &mut self.room) {
             Ok(_words) => {
@@ -113,7 +127,9 @@ impl Run {
 
     // A line has ended: `end` is its last part, or the whole of it.
     fn end_line<W: Write>(&mut self, end: &[u8], to: &mut W) -> io::Result<()>
-        ensures failed { OnErr result (self.new.out ≡ self.old.out) }
+        ensures answered { OnOk result (self.old.part ≡ Lines → (self.new.held.len ≡ 0) × (self.new.room ≡ self.old.room)) }
+        ensures failed { OnErr result ((self.new.out ≡ self.old.out) × (self.new.part ≡ self.old.part)) }
+        ensures failed_same { OnErr result ((self.new.room ≡ self.old.room) × (self.new.line ≡ self.old.line)) }
     {
         match self.part {
             Part::FirstLine => {
@@ -138,6 +154,7 @@ impl Run {
     }
 
     // One piece of input, line by line; what it has of a line that it does not end is held.
+    // After an error the lines before it are answered, or wait in `out`; no clause says which those are, since `serve` ends there.
     fn feed<W: Write>(&mut self, piece: &[u8], to: &mut W) -> io::Result<()> {
         for line in piece.split_inclusive(|b| *b == lines::LF) {
             if self.is_over() {
@@ -153,8 +170,10 @@ impl Run {
 
     // The input is at its end: a card that is not whole is refused, and a last piece of a line counts if it is not empty.
     fn finish<W: Write>(&mut self, to: &mut W) -> io::Result<()>
-        ensures answered { OnOk result (self.new.held.len ≡ 0) }
-        ensures failed { OnErr result ((self.new.out ≡ self.old.out) × (self.new.room ≡ self.old.room)) }
+        ensures answered { OnOk result ((self.new.part ≡ Over) × (self.new.held.len ≡ 0)) }
+        ensures failed { OnErr result (self.new ≡ self.old) }
+        ensures same { self.new.held.bytes ≡ self.old.held.bytes }
+        ensures by_table { (self.old.part ≡ Lines) ⊎ (self.old.part ≡ Over) → self.new.room ≡ self.old.room }
     {
         match self.part {
             Part::FirstLine | Part::SecondLine => self.whole_card(),

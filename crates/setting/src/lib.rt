@@ -7,9 +7,17 @@
 ghost use Rattle.std.specs.Prelude.{◌≡◌};
 ghost use Rattle.setting.specs.Setting.{Moves};
 
+// Each of three variables is untouched, open or shut.
+pub const SETTINGS: usize = 27;
+
+// The markers of three variables, each opened and closed.
+pub const MARKERS: usize = 6;
+
+const ENTRIES: usize = SETTINGS * MARKERS;
+
 // A form that the project chose: a constant table.
 #[rattlefmt::skip]
-pub const MOVES: [u8; 162] = [
+pub const MOVES: [u8; ENTRIES] = [
     1, 27, 3, 27, 9, 27, // setting 0
     27, 2, 4, 27, 10, 27, // setting 1
     27, 27, 5, 27, 11, 27, // setting 2
@@ -40,7 +48,7 @@ pub const MOVES: [u8; 162] = [
 ];
 
 // The whole table, to be lent on: a constant is laid out anew wherever it is named.
-pub fn moves() -> [u8; 162]
+pub fn moves() -> [u8; ENTRIES]
     ensures { Moves result }
 {
     MOVES

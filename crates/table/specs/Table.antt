@@ -2,6 +2,7 @@
 --
 -- Row                 from, to, kind, argument, weight
 -- row_of_words ws at         the row whose five words start at `at`
+-- words_of_row r      the five words of a row
 -- rows_from ws at n    the n rows that stand from `at` on
 -- most_states ..       01's limits
 -- RightRow S K r      r keeps the rules for rows, with S states and K variables
@@ -17,6 +18,9 @@ use Rattle.table.specs.declared.Row.{Row}
 
 abbrev pub row_of_words : List ℕ → ℕ → Row
 row_of_words ws at = record { from = get_or ws at 0; to = get_or ws (at + 1) 0; kind = get_or ws (at + 2) 0; argument = get_or ws (at + 3) 0; weight = get_or ws (at + 4) 0 }
+
+abbrev pub words_of_row : Row → List ℕ
+words_of_row r = r.from ∷ r.to ∷ r.kind ∷ r.argument ∷ r.weight ∷ []
 
 unfoldable pub rows_from : List ℕ → ℕ → ℕ → List Row
 rows_from ws at zero = []

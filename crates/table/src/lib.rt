@@ -5,13 +5,35 @@
 ghost use Rattle.std.specs.Prelude.{◌≡◌, ◌+◌, ◌*◌, ◌≤◌, length};
 ghost use Rattle.basics.specs.Decides.{Decides};
 ghost use Rattle.marks.specs.Labels.{RightLabel};
-ghost use Rattle.table.specs.Table.{row_of_words, RightRow, RightEnd, RightTable, most_states, most_rows};
+ghost use Rattle.table.specs.Table.{row_of_words, words_of_row, RightRow, RightEnd, RightTable, most_states, most_rows};
 ghost use Rattle.table.specs.Check.{RightBytes, RightHeader, EndsRight, RowsRight};
 
 pub mod right;
 
-// Five words of a table. The kind stays a number: it is a word of a lent table that may hold anything, and the check is what tells
-// 0, 1 and 2 from the rest.
+pub const MOST_STATES: u32 = 32;
+
+pub const MOST_VARS: u32 = 3;
+
+pub const MOST_ROWS: u32 = 1024;
+
+const MOST_WEIGHT: u32 = 1000000;
+
+const NO_END: u32 = weight::Weight::MARK.number;
+
+// The words before the end words: the numbers of states, variables and rows.
+pub const HEADER: usize = 3;
+
+pub const ROW_WORDS: usize = 5;
+
+// What a row's kind says.
+pub const READS: u32 = 0;
+
+pub const OPENS: u32 = 1;
+
+pub const CLOSES: u32 = 2;
+
+// Five words of a table. The kind stays a number, and no enum: it is a word of a lent table that may hold anything, and the check is
+// what tells the three kinds from the rest.
 #[derive(Clone, Copy)]
 pub struct Row {
     pub from: u32,
@@ -21,27 +43,34 @@ pub struct Row {
     pub weight: u32,
 }
 
-const MOST_STATES: u32 = 32;
+// The five words in the order of a table, and back.
+impl From<Row> for [u32; ROW_WORDS] {
+    ghost from_gives = { λ row words. words ≡ words_of_row row };
 
-const MOST_VARS: u32 = 3;
+    fn from(r: Row) -> [u32; ROW_WORDS] {
+        [r.from, r.to, r.kind, r.argument, r.weight]
+    }
+}
 
-const MOST_ROWS: u32 = 1024;
+impl From<[u32; ROW_WORDS]> for Row {
+    ghost from_gives = { λ words row. row ≡ row_of_words words 0 };
 
-const MOST_WEIGHT: u32 = 1000000;
-
-const NO_END: u32 = weight::Weight::MARK.number;
+    fn from([from, to, kind, argument, weight]: [u32; ROW_WORDS]) -> Row {
+        Row {
+            from,
+            to,
+            kind,
+            argument,
+            weight,
+        }
+    }
+}
 
 pub fn row_at(t: &[u32], at: usize) -> Row
     requires { at + 5 ≤ length t.now }
     ensures { result ≡ row_of_words t.now at }
 {
-    Row {
-        from: t[at],
-        to: t[at + 1],
-        kind: t[at + 2],
-        argument: t[at + 3],
-        weight: t[at + 4],
-    }
+    [t[at], t[at + 1], t[at + 2], t[at + 3], t[at + 4]].into()
 }
 
 fn right_end(w: u32) -> bool
@@ -60,8 +89,8 @@ fn right_label(k: u32, kind: u32, argument: u32) -> bool
     ensures { Decides (RightLabel k kind argument) result }
 {
     match kind {
-        0 => right_bytes(argument),
-        1 | 2 => 1 <= argument && argument <= k,
+        READS => right_bytes(argument),
+        OPENS | CLOSES => 1 <= argument && argument <= k,
         _ => false,
     }
 }
@@ -76,28 +105,30 @@ fn right_ends(t: &[u32], s: usize) -> bool
     requires { 3 + s ≤ length t.now }
     ensures { Decides (EndsRight t.now s) result }
 {
-    (0..s).all(|q| right_end(t[3 + q]))
+    t[HEADER..HEADER + s].iter().all(|&w| right_end(w))
 }
 
+// Where the words of row i start, behind the end words of s states.
+fn row_start(s: usize, i: usize) -> usize
+    requires { (s ≤ most_states) × (i ≤ most_rows) }
+    ensures { result ≡ 3 + s + 5 * i }
+{
+    HEADER + s + ROW_WORDS * i
+}
+
+// By number and not by `chunks_exact`: the rows would have to be cut out first by where the first starts and where the last ends, and
+// that is no plainer than where each starts.
 fn right_rows(t: &[u32], s: u32, k: u32, n: usize) -> bool
     requires { (s ≤ most_states) × (n ≤ most_rows) × (3 + s + 5 * n ≤ length t.now) }
     ensures { Decides (RowsRight t.now s k n) result }
 {
-    let at = 3 + s as usize;
-    (0..n).all(|i| right_row(s, k, row_at(t, at + 5 * i)))
+    (0..n).all(|i| right_row(s, k, row_at(t, row_start(s as usize, i))))
 }
 
 fn right_header(s: u32, k: u32, n: u32) -> bool
     ensures { Decides (RightHeader s k n) result }
 {
     1 <= s && s <= MOST_STATES && k <= MOST_VARS && n <= MOST_ROWS
-}
-
-fn words_of(s: u32, n: u32) -> usize
-    requires { (s ≤ most_states) × (n ≤ most_rows) }
-    ensures { result ≡ 3 + s + 5 * n }
-{
-    3 + s as usize + 5 * n as usize
 }
 
 // The three limits come before the length: below them the length asked for cannot wrap.
@@ -108,7 +139,7 @@ pub fn is_right(t: &[u32]) -> bool
         return false;
     };
     right_header(s, k, n)
-        && words_of(s, n) <= t.len()
+        && row_start(s as usize, n as usize) <= t.len()
         && right_ends(t, s as usize)
         && right_rows(t, s, k, n as usize)
 }

@@ -1,16 +1,29 @@
 // Words that are a right table, to be lent on: who is given one need not ask that they are. No loop.
 #![tactic(auto)]
 
-ghost use Rattle.std.specs.Prelude.{◌≡◌, ◌+◌, ◌*◌, ◌≤◌, ◌<◌, length, get_or};
+ghost use Rattle.std.specs.Prelude.{◌≡◌, ◌+◌, ◌*◌, ◌≤◌, ◌<◌, length, get_or, MatchOption};
 ghost use Rattle.table.specs.Table.{RightRow, RightTable, automaton_of, most_states, most_vars, most_rows};
 ghost use Rattle.table.specs.Props.{RightTable-prop};
 
-use crate::{Row, row_at};
+use crate::{HEADER, Row, is_right, row_at, row_start};
 
 #[derive(Clone, Copy)]
 pub struct Table<'a> {
     pub words: &'a [u32],
     pub ghost right: { RightTable words.now } by { RightTable-prop words.now },
+}
+
+impl<'a> Table<'a> {
+    // These words, if they are a right table.
+    pub fn of(words: &'a [u32]) -> Option<Table<'a>>
+        ensures { MatchOption result (RightTable words.now → ⊥) (λ table. table.words.now ≡ words.now) }
+    {
+        if is_right(words) {
+            Some(Table { words })
+        } else {
+            None
+        }
+    }
 }
 
 impl Table<'_> {
@@ -42,7 +55,7 @@ impl Table<'_> {
         requires { q < (automaton_of self.now.words.now).states }
         ensures { result ≡ (automaton_of self.now.words.now).end q }
     {
-        self.words[3 + q]
+        self.words[HEADER + q]
     }
 
     // Where the words of row i start.
@@ -53,7 +66,7 @@ impl Table<'_> {
         ensures within { result + 5 ≤ length self.now.words.now }
         ensures few { result < 3 + most_states + 5 * most_rows }
     {
-        3 + self.states() + 5 * i
+        row_start(self.states(), i)
     }
 
     pub fn row(&self, i: usize) -> Row

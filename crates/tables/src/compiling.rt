@@ -1,9 +1,9 @@
 // A question to the compiler: K, a pattern and the words of the room; then the answer and the words that it leaves at the start of the room.
-// Kinds of answer: 0 written, 2 a refusal, after which no word is left.
+// After a refusal no word is left.
 
 use crate::buffer::Buffer;
 use crate::numbers::Numbers;
-use crate::said::Said;
+use crate::said::{stored, valued};
 
 // Stands in the room before, so that a word is seen that should have stayed.
 const BEFORE: u32 = 77777777;
@@ -25,6 +25,6 @@ pub fn ask(numbers: &mut Numbers, buffer: &mut Buffer) -> bool {
     let most = size.min(room.len());
     let room = &mut room[..most];
     room.fill(BEFORE);
-    let said = Said::from(compiler::compile(k, pattern, room));
-    Some(said) == Said::stored(head, words.len()) && is_left(room, words)
+    let said = valued(compiler::compile(k, pattern, room));
+    Some(said) == stored(head, |_| words.len()) && is_left(room, words)
 }

@@ -20,8 +20,10 @@ use std::io::{Print, Read};
 // Bytes of a file that are read; what follows them is not.
 const MOST_TEXT: usize = 262144;
 
-// The first number of a question to a table.
+// The first number of a question: to a table, or to the compiler.
 const TO_TABLE: u32 = 1;
+
+const TO_COMPILER: u32 = 2;
 
 const MOST_QUESTIONS: u32 = 1000000;
 
@@ -58,11 +60,12 @@ impl Tally {
     }
 }
 
-// Asks the next question, and says whether the answer is the stored one. Any number but that of a table leads to the compiler.
+// Asks the next question, and says whether the answer is the stored one. No other number is stored; it leads to the compiler too, so
+// that the program does on each text what it always did.
 fn ask(numbers: &mut Numbers, buffer: &mut Buffer) -> bool {
     match numbers.number() {
         TO_TABLE => reading::ask(numbers, buffer),
-        _ => compiling::ask(numbers, buffer),
+        TO_COMPILER | _ => compiling::ask(numbers, buffer),
     }
 }
 

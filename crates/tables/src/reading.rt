@@ -1,9 +1,9 @@
 // A question to a table: its words, a line and six numbers; then the answers for the weight of that set and for the best reading.
-// Kinds of answer: 0 a weight or a reading, 1 no reading, 2 a refusal.
+// After the three numbers of the second stand the six of its reading, whatever its kind.
 
 use crate::buffer::Buffer;
 use crate::numbers::Numbers;
-use crate::said::Said;
+use crate::said::{of_answer, stored, valued};
 use spans::Spans;
 use weight::Weight;
 
@@ -13,10 +13,10 @@ pub fn ask(numbers: &mut Numbers, buffer: &mut Buffer) -> bool {
     let line = numbers.bytes(&mut buffer.bytes);
     let set = Spans::from(numbers.array());
     let head = numbers.array();
-    let weight = Said::stored(head, Weight { number: head[1] });
+    let weight = stored(head, |number| Weight { number });
     let head = numbers.array();
-    let least = Weight { number: head[1] };
-    let reading = Said::stored(head, (least, Spans::from(numbers.array())));
-    Some(Said::from(reader::weight_of_set(table, line, set))) == weight
-        && Some(Said::from(reader::best_reading(table, line))) == reading
+    let spans = Spans::from(numbers.array());
+    let reading = stored(head, |number| (Weight { number }, spans));
+    Some(valued(reader::weight_of_set(table, line, set))) == weight
+        && Some(of_answer(reader::best_reading(table, line))) == reading
 }

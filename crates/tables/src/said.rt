@@ -5,45 +5,55 @@ use refusal::Refusal;
 use spans::Spans;
 use weight::Weight;
 
+// Kinds of stored answer. The value is a weight, a reading, or how many words were written.
+const VALUE: u32 = 0;
+
+const NO_READING: u32 = 1;
+
+const REFUSED: u32 = 2;
+
+// By its number and place, as it is stored: not every two numbers are those of a `Refusal`.
 #[derive(Clone, Copy, PartialEq, Eq)]
-pub enum Said<T> {
-    Value(T),
-    NoReading,
-    Refused { number: u32, place: u32 },
+pub struct Refused {
+    number: u32,
+    place: u32,
 }
 
-impl<T: Copy> Said<T> {
-    // A stored answer, from its kind, number and place, and the value that it has where its kind is 0.
-    // None where its kind is none of the three: no answer is the same as that.
-    pub fn stored(head: [u32; 3], value: T) -> Option<Said<T>> {
-        let [kind, number, place] = head;
-        match kind {
-            0 => Some(Said::Value(value)),
-            1 => Some(Said::NoReading),
-            2 => Some(Said::Refused { number, place }),
-            _ => None,
+impl From<Refusal> for Refused {
+    fn from(refusal: Refusal) -> Refused {
+        Refused {
+            number: refusal.number(),
+            place: refusal.place(),
         }
     }
 }
 
-impl<T> From<Result<T, Refusal>> for Said<T> {
-    fn from(answer: Result<T, Refusal>) -> Said<T> {
-        match answer {
-            Ok(value) => Said::Value(value),
-            Err(refusal) => Said::Refused {
-                number: refusal.number(),
-                place: refusal.place(),
-            },
-        }
+// None: no reading.
+pub type Said<T> = Result<Option<T>, Refused>;
+
+// A stored answer from its three numbers: its kind, and the number and place of a refusal; `value` says what it is where it is a value,
+// of which the second number may be a part. None where its kind is none of the three: no answer is the same as that.
+pub fn stored<T, F: Fn(u32) -> T>(head: [u32; 3], value: F) -> Option<Said<T>>
+    requires { F.IsAlwaysCallable value }
+{
+    let [kind, number, place] = head;
+    match kind {
+        VALUE => Some(Ok(Some(value(number)))),
+        NO_READING => Some(Ok(None)),
+        REFUSED => Some(Err(Refused { number, place })),
+        _ => None,
     }
 }
 
-impl From<Answer> for Said<(Weight, Spans)> {
-    fn from(answer: Answer) -> Said<(Weight, Spans)> {
-        match answer {
-            Answer::Reading { weight, spans } => Said::Value((weight, spans)),
-            Answer::NoReading => Said::NoReading,
-            Answer::Refused { number, place } => Said::Refused { number, place },
-        }
+// An answer that is a value wherever it is no refusal.
+pub fn valued<T>(answer: Result<T, Refusal>) -> Said<T> {
+    Ok(Some(answer?))
+}
+
+pub fn of_answer(answer: Answer) -> Said<(Weight, Spans)> {
+    match answer {
+        Answer::Reading { weight, spans } => Ok(Some((weight, spans))),
+        Answer::NoReading => Ok(None),
+        Answer::Refused { number, place } => Err(Refused { number, place }),
     }
 }

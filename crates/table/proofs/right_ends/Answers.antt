@@ -1,11 +1,15 @@
 -- `right_ends`: the rule for end words at each place below s.
-use Rattle.std.proofs.Common.{◌+◌, get_or, arith, rules}
-use Rattle.std.proofs.lemmas.Iterator.{cases_from_all, YieldsList-from_range}
+use Rattle.std.proofs.Common.{◌≡◌, refl, ◌+◌, ◌-◌, ℕ, List, take, drop, ◌∙◌, arith, rules}
+use Rattle.std.proofs.lemmas.Iterator.{cases_from_all, YieldsList-from_slice}
 use Rattle.table.specs.Table.{RightEnd}
-use Rattle.table.proofs.Every.{all_decides, says_yes, says_no}
+use Rattle.table.proofs.Every.{all_words, says_yes, says_no}
 use Rattle.table.proofs.right_ends.Goals as goal
 
 pub returns : goal.returns
 returns c =
     let ws = c.args.t.now in
-    all_decides (λ q. RightEnd (get_or ws (3 + q) 0)) c.args.s _ (cases_from_all _ _ _ (λ q. RightEnd (get_or ws (3 + q) 0)) (λ q. RightEnd (get_or ws (3 + q) 0) → ⊥) c.all.ensures.ran (YieldsList-from_range 0 c.args.s c.args.s (cc) (omega arith)) (λ x q k. search (rules, says_yes)) (λ x q k. search (rules, says_no)))
+    let s = c.args.s in
+    let n : 3 + s - 3 ≡ s = omega arith in
+    let rest : take (3 + s - 3) (drop 3 ws) ≡ take s (drop 3 ws) = rw n refl in
+    let xs : List ℕ = take s (drop 3 ws) in
+    all_words RightEnd ws s _ c.requires (cases_from_all _ _ _ RightEnd (λ w. RightEnd w → ⊥) c.all.ensures.ran (YieldsList-from_slice xs (c.iter.ensures.rest ∙ rest)) (λ x q k. search (rules, says_yes)) (λ x q k. search (rules, says_no)))

@@ -1,6 +1,6 @@
 -- `close`: one setting less at each turn, down to the lowest in use.
 use Rattle.std.proofs.Common.{◌≡◌, arith}
-use Rattle.layer.proofs.Closing.{closed_none, closed_more}
+use Rattle.layer.proofs.Closing.{closed_more}
 use Rattle.layer.proofs.Gathering.{closed_all}
 use Rattle.layer.proofs.cells.Layer.close.Goals as goal
 

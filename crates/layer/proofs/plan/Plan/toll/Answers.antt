@@ -1,14 +1,15 @@
 -- `toll`: the two tests of the range, and a product that fits.
 use Rattle.std.proofs.Common.{◌<◌, ◌*◌, arith}
 use borrow.Author.Tests.{lt-leb, le-leb}
-use Rattle.layer.specs.Layer.{shut, toll_of}
+use Rattle.togo.specs.Price.{base}
+use Rattle.layer.specs.Layer.{toll_of}
 use Rattle.layer.proofs.Rightness.{toll_open}
 use Rattle.layer.proofs.plan.Plan.toll.Goals as goal
 use Rattle.layer.proofs.plan.Plan.toll.Goals.{then-p-self-via-then-p-self, then-p-self-via-else-p-self+then-self-m}
 
 pub overflow_mul-result : goal.overflow_mul-result
 overflow_mul-result c =
-    let h : c.digit.result * c.place.result < shut = rw (c.digit.ensures, c.place.ensures) (toll_open _ _ c.requires.0 c.requires.1) in
+    let h : c.digit.result * c.place.result < base = rw (c.digit.ensures, c.place.ensures) (toll_open _ _ c.requires.0 c.requires.1) in
     omega arith
 
 pub returns-then-p-self : goal.returns-then-p-self
