@@ -71,6 +71,8 @@ impl Layer {
     }
 
     // State `from` takes what `to` has, at each setting in use. Most cells of a real card are empty, and are passed over.
+    // Never inlined: within its callers a byte of `samples/ec.card` took 1.6 times as long (docs/PERFORMANCE.md).
+    #[inline(never)]
     fn relax_row(&mut self, old: &Layer, from: usize, to: usize, price: Cell, low: usize)
         requires { (from < most_states) × (to < most_states) × (low < SETTINGS) }
         ensures { RowRelaxed low from to (value price) SETTINGS (cells old.now) (cells self.old) (cells self.new) }

@@ -130,8 +130,6 @@ impl Plan<'_> {
 
 // The price of the best run that has each marker m at a position from lo[m] to hi[m]. Words and ranges are lent apart: so the clauses
 // promise it, and `Table` or a type of the ranges would ask more of callers. Within, `Plan` keeps what they say.
-// Never inlined: within a caller LLVM spills what the innermost loop counts with, and 248 rows with three variables took a quarter longer.
-#[inline(never)]
 pub fn sweep(t: &[u32], line: &[u8], lo: &[u32], hi: &[u32]) -> Cell
     requires right_table { RightTable t.now × (length line.now ≤ most_bytes) }
     requires in_bounds { (6 ≤ length lo.now) × (6 ≤ length hi.now) }
