@@ -21,7 +21,7 @@ pub struct Cell {
 }
 
 impl Cell {
-    // No run.
+    // No run: the mark, which is a weight and no flag. `lighter` and `sum` go on with it.
     pub const NONE: Cell = Cell {
         weight: Weight::MARK.number,
         key: 0,

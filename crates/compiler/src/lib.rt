@@ -10,8 +10,8 @@ use parser::LABELS;
 use refusal::Refusal;
 use table::{HEADER, ROW_WORDS};
 
-// 01's limits. The steps have a number of their own: that the parser's cells have no room for more is another matter, and a smaller limit
-// is what must-fail/steps_30.edit tries.
+// 01's limits. The variables and the steps have numbers of their own: what a table may have, and what the parser's cells have room for, are
+// other matters, and other limits are what must-fail/vars_4.edit and steps_30.edit try.
 pub const MOST_VARS: u32 = 3;
 
 pub const MOST_TEXT: usize = 255;

@@ -10,7 +10,8 @@ ghost use Rattle.grid.specs.Cells.{bridge, extra, Cleared, Leafed, Linked, Raise
 
 use weight::Weight;
 
-// The states, the steps between them, which is also the last state, and the arcs from each to each.
+// The states, as many as a table may have, of which this crate does not know; the steps between them, which is also the last state; and the
+// arcs from each to each.
 pub const STATES: usize = 32;
 
 pub const STEPS: usize = STATES - 1;

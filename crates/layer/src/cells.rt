@@ -70,7 +70,8 @@ impl Layer {
         self.put(here, c);
     }
 
-    // State `from` takes what `to` has, at each setting in use. Most cells of a real card are empty, and are passed over.
+    // State `from` takes what `to` has, at each setting in use. Most cells of a real card have no run, and are passed over: the
+    // mark is a weight and no flag, and to go on with it would give the same.
     // Never inlined: within its callers a byte of `samples/ec.card` took 1.6 times as long (docs/PERFORMANCE.md).
     #[inline(never)]
     fn relax_row(&mut self, old: &Layer, from: usize, to: usize, price: Cell, low: usize)

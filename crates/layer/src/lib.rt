@@ -1,8 +1,8 @@
 // The cells of one position of a line (01, "The table"): for each state and setting the least price of a run from there to the
 // line's end. A sweep goes from the end to the start: a byte step, which tests each row once and then goes over the settings in
 // use, and a closing under the marker rows, from the highest setting down, since a marker always raises the setting.
-// A byte costs rows + (rows that read it + marker rows) × 3^K cells. The stack is about 46 KB, whatever the line: four layers, since
-// a step takes and gives them by value, and where the marker rows start.
+// A byte costs rows + (rows that read it + marker rows) × 3^K cells. The stack is about 41 KB, whatever the line: layers, since a step
+// takes and gives them by value, and where the marker rows start (docs/PERFORMANCE.md).
 #![tactic(auto)]
 
 ghost use Rattle.std.specs.Prelude.{◌≡◌, ◌+◌, map, [], ◌≤◌, ◌<◌, length, get_or};
@@ -53,13 +53,14 @@ impl Layer {
     {
         let m = marker(r);
         let d = plan.moves[u * MARKERS + m] as usize;
-        // No setting stands for "may not be taken" in the constant table of moves, a form of docs/DECISIONS.md.
+        // 27, which is no setting, stands for "may not be taken" in the constant table of moves, a form of docs/DECISIONS.md.
         if SETTINGS <= d {
             return;
         }
         let Some(toll) = tolls[m] else {
             return;
         };
+        // As in `relax_row`: what has no run is passed over.
         let far = self.cell(r.to as usize * SETTINGS + d);
         if far.weight == Cell::NONE.weight {
             return;

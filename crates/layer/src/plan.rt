@@ -59,7 +59,8 @@ pub fn gather<'b>(table: &Table, marks: &'b mut [u32; MOST_ROWS]) -> &'b [u32]
     &marks[..count]
 }
 
-// A bound on a number, as on m and p here, is what the caller knows of it: a type around each number would be no plainer.
+// A bound on a number, as on m and p here and on the place of a cell in cells.rt, is what the caller knows of it: a type around each
+// number would be no plainer.
 
 // What is compared of position p of marker m (01, "The table": the order of sets).
 fn digit(m: usize, p: usize) -> u64

@@ -17,7 +17,7 @@ fn first_lf(text: &[u8]) -> Option<usize>
 
 // Where the line that `at` stands in ends: its LF, or the end of the text. A text and a place apart, as for `keep` a buffer and its
 // length: so the clauses promise it, and a type of the two would ask more of callers. A text with no LF gives its length and not None:
-// so `EndsAt` says it, and both callers go on from there as from an LF.
+// so `EndsAt` says it, and `card`, the one caller, refuses a line 2 that ends so.
 pub fn line_end(text: &[u8], at: usize) -> usize
     requires { at ≤ length text.now }
     ensures { EndsAt text.now at result }

@@ -24,7 +24,7 @@ pub const LABELS: usize = 2 * STATES;
 // How many bytes there are: a label of a range has its two ends in one word, as the two digits of a number to this base.
 const BYTES: u32 = 256;
 
-// What a step does, numbered as in the words of a table.
+// What a step does, numbered as in the words of a table, which this crate does not know.
 #[derive(Clone, Copy)]
 enum Kind {
     Reads = 0,
@@ -32,7 +32,8 @@ enum Kind {
     Closes = 2,
 }
 
-// A part of the text: the place after it, its steps, its nesting, and what is charged where it takes no step; the mark, if it must take one.
+// A part of the text: the place after it, its steps, its nesting, and what is charged where it takes no step; the mark, a
+// weight like any other and no flag, if it must take one.
 #[derive(Clone, Copy)]
 pub struct Part {
     pub next: usize,
@@ -216,7 +217,7 @@ struct Text<'a> {
     ghost short: { length bytes.now ≤ 255 },
 }
 
-// That a place is in the text or at its end stands in nine contracts, and that no more steps than bytes are before it in four: a type of
+// That a place is in the text or at its end stands in ten contracts, and that no more steps than bytes are before it in four: a type of
 // such places would be no plainer, since it would be made, and its bounds proved, at each byte and each step that is passed.
 impl Text<'_> {
     // Past the end as if a byte 0 stood there, which stands nowhere in a pattern: an `Option` would be taken apart at each use.

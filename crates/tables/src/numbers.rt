@@ -17,7 +17,8 @@ impl<'a> Numbers<'a> {
         self.rest.is_empty()
     }
 
-    // The next number, modulo 2^32; 0 where the text is over. Any byte from `0` on counts as a digit.
+    // The next number, modulo 2^32; 0 where the text is over, so that the program does on each text what it always did. Any byte from `0`
+    // on counts as a digit.
     pub fn number(&mut self) -> u32 {
         let mut value = 0u32;
         while let Some((byte, rest)) = self.rest.split_first() {
