@@ -1,5 +1,5 @@
 // A refusal: why a card, a table, a line or a set of spans gets no answer, and where. Each has a number and a place, by which users
-// know it ("Numbers, places and order of checks"). No loop, no stack to speak of.
+// know it (docs/CARDS.md, "When the reader refuses"). No loop, no stack to speak of.
 #![tactic(auto)]
 
 ghost use Rattle.std.specs.Prelude.{◌≡◌};
