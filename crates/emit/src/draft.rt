@@ -47,10 +47,13 @@ impl<'a> Draft<'a> {
         ensures { (result ≤ self.now.steps) × (result ≡ length (rows_for (cell_at self.now.cells.now) (labels_in self.now.labels.now) self.now.steps x)) }
     {
         let first = x * STATES + 1;
-        self.cells[first..first + self.steps]
-            .iter()
-            .filter(|weight| **weight < NO_ARC)
-            .count()
+        let mut n = 0;
+        for weight in &self.cells[first..first + self.steps] {
+            if *weight < NO_ARC {
+                n += 1;
+            }
+        }
+        n
     }
 
     #[tactic(auto, unfolding(layout::specs::Gather::gather))]

@@ -1,7 +1,7 @@
 // The cells of one position of a line (01, "The table"): for each state and setting the least price of a run from there to the
 // line's end. A sweep goes from the end to the start: a byte step, which tests each row once and then goes over the settings in
 // use, and a closing under the marker rows, from the highest setting down, since a marker always raises the setting.
-// A byte costs rows + (rows that read it + marker rows) × 3^K cells. The stack is about 41 KB, whatever the line: layers, since a step
+// A byte costs rows + (rows that read it + marker rows) × 3^K cells. The stack is about 46 KB, whatever the line: layers, since a step
 // takes and gives them by value, and where the marker rows start (docs/PERFORMANCE.md).
 #![tactic(auto)]
 

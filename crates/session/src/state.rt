@@ -1,5 +1,6 @@
 // Where a run has come to, with the bytes that it holds and the table that it reads by; and its steps.
 ghost use Rattle.std.specs.Prelude.{◌≡◌, ◌↔◌, ◌⊎◌, ◌≤◌, IsTrue, OnErr, OnOk};
+ghost use Rattle.lines.specs.Ends.{lf};
 ghost use Rattle.session.specs.declared.TheConstants.{MOST_LINES};
 ghost use Rattle.session.specs.declared.state.Part.TheVariants.{SecondLine, Lines, Over};
 
@@ -153,10 +154,15 @@ impl Run {
         Ok(())
     }
 
-    // One piece of input, line by line; what it has of a line that it does not end is held.
+    // One piece of input, line by line; what it has of a line that it does not end is held. The closure has a clause, since its words are
+    // what says where a line ends: std's `split_inclusive` cuts after the first byte that passes it.
     // After an error the lines before it are answered, or wait in `out`; no clause says which those are, since `serve` ends there.
     fn feed<W: Write>(&mut self, piece: &[u8], to: &mut W) -> io::Result<()> {
-        for line in piece.split_inclusive(|b| *b == lines::LF) {
+        for line in piece.split_inclusive(
+            |b|
+                ensures { IsTrue result ↔ b.now ≡ lf }
+            { *b == lines::LF },
+        ) {
             if self.is_over() {
                 break;
             }
