@@ -107,6 +107,8 @@ pub fn raise(cells: &mut [u32], lo: usize, hi: usize, ending: u32, next: usize, 
 }
 
 // A part of the steps after o up to mid, and one of the steps after mid, with their weights for no step: the one after the other.
+// Never inlined: within the parser's functions, which call themselves, it took 32 bytes of stack more for each factor and each bracket.
+#[inline(never)]
 pub fn join(cells: &mut [u32], o: usize, mid: usize, n: u32, m: u32) -> u32
     requires { 1024 ≤ length cells.old }
     ensures { (result ≡ joint n m) × Joined o mid n m cells.old cells.new }

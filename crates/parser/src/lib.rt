@@ -1,6 +1,6 @@
 // The card's parser (01, "The pattern on the card"; number 3 of "Numbers, places and order of checks"). It builds the arcs as it goes:
 // pattern, term, factor and atom call one another, the bytes left falling. A byte is looked at a few times, and each join of two parts
-// passes twice over the 1,024 cells. Stack: 464 bytes for each open bracket, 352 for each factor of a term; 118 KB for 255 `(`.
+// passes twice over the 1,024 cells. Stack: 432 bytes for each open bracket, 320 for each factor of a term; 110 KB for 255 `(`.
 #![tactic(auto)]
 
 ghost use Rattle.std.specs.Prelude.{◌≡◌, ◌+◌, ◌-◌, ◌*◌, ◌≤◌, ◌<◌, max, length, get_or, true, false, MatchResult};
