@@ -1,8 +1,9 @@
 // Lines parted by LF, in a piece of input and across pieces (01, "The card and the program").
-// `line_end` finds where a line ends; `keep` holds the part of a line that the next piece will go on with, as far as there is room.
+// `line_end` finds where a line ends, and `ended` takes the LF off one that has; `keep` holds the part of a line that the next piece
+// will go on with, as far as there is room.
 #![tactic(auto)]
 
-ghost use Rattle.std.specs.Prelude.{◌≡◌, ◌==◌, ◌+◌, ◌-◌, ◌≤◌, min, length, drop};
+ghost use Rattle.std.specs.Prelude.{◌≡◌, ◌==◌, ◌+◌, ◌-◌, ◌≤◌, List, ℕ, [], ◌∷◌, ◌++◌, MatchOption, min, length, drop};
 ghost use Rattle.std.proofs.Math.Seq.{paste};
 ghost use Rattle.std.specs.List.{position};
 ghost use Rattle.lines.specs.Ends.{EndsAt, lf};
@@ -26,6 +27,13 @@ pub fn line_end(text: &[u8], at: usize) -> usize
         Some(n) => at + n,
         None => text.len(),
     }
+}
+
+// A line that has ended, without its LF; none where it goes on in the next piece.
+pub fn ended(line: &[u8]) -> Option<&[u8]>
+    ensures { MatchOption result ((before : List ℕ) → line.now ≡ before ++ (lf ∷ []) → ⊥) (λ before. line.now ≡ before.now ++ (lf ∷ [])) }
+{
+    line.strip_suffix(&[LF])
 }
 
 // Puts what stands in `piece` from `from` up to `to` after the first `len` bytes of `held`, as much of it as there is room for,

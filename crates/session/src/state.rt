@@ -154,8 +154,8 @@ impl Run {
         Ok(())
     }
 
-    // One piece of input, line by line; what it has of a line that it does not end is held. The closure has a clause, since its words are
-    // what says where a line ends: std's `split_inclusive` cuts after the first byte that passes it.
+    // One piece of input, line by line; what it has of a line that it does not end is held. The closure has a clause,
+    // since its words say which byte std's `split_inclusive` cuts after; `ended` says that it is the one taken off.
     // After an error the lines before it are answered, or wait in `out`; no clause says which those are, since `serve` ends there.
     fn feed<W: Write>(&mut self, piece: &[u8], to: &mut W) -> io::Result<()> {
         for line in piece.split_inclusive(
@@ -166,9 +166,9 @@ impl Run {
             if self.is_over() {
                 break;
             }
-            match line {
-                [end @ .., lines::LF] => self.end_line(end, to)?,
-                _ => self.held.keep(line),
+            match lines::ended(line) {
+                Some(end) => self.end_line(end, to)?,
+                None => self.held.keep(line),
             }
         }
         Ok(())
